@@ -1,0 +1,72 @@
+-- The numbers and values of document 01 for each way a call ends.
+use Prim.Native.Nat.{ℕ}
+use Rattle.cyw43_types.specs.declared.outcome.DriverError.{DriverError}
+use Rattle.cyw43_types.specs.declared.outcome.DriverError.the-variants as error
+use Rattle.cyw43_types.specs.declared.outcome.Refusal.{Refusal}
+use Rattle.cyw43_types.specs.declared.outcome.Refusal.the-variants as refusal
+use Rattle.cyw43_types.specs.declared.outcome.WlanPollResult.{WlanPollResult}
+use Rattle.cyw43_types.specs.declared.outcome.WlanPollResult.the-variants as poll
+use Rattle.cyw43_types.specs.declared.outcome.Outcome.{Outcome}
+use Rattle.cyw43_types.specs.declared.outcome.Outcome.the-variants as outcome
+
+-- 'Refusals', the first column
+abbrev pub errorNumber : DriverError → ℕ
+errorNumber error.InvalidArg = 1
+errorNumber error.Timeout = 2
+errorNumber error.Io = 3
+errorNumber error.Busy = 4
+errorNumber error.WouldBlock = 5
+errorNumber error.NoMem = 6
+errorNumber (error.Fault p) = 7
+errorNumber error.EventHeader = 10
+errorNumber error.PastBuffer = 11
+
+abbrev pub numberOf : Refusal → ℕ
+numberOf (refusal.Driver e) = errorNumber e
+numberOf refusal.Unrecorded = 8
+numberOf refusal.WrongAnswer = 9
+numberOf refusal.LogFull = 12
+numberOf refusal.BufferLength = 13
+
+-- a refusal's value: a fault's place, else 0
+abbrev pub errorValue : DriverError → ℕ
+errorValue error.InvalidArg = 0
+errorValue error.Timeout = 0
+errorValue error.Io = 0
+errorValue error.Busy = 0
+errorValue error.WouldBlock = 0
+errorValue error.NoMem = 0
+errorValue (error.Fault p) = p
+errorValue error.EventHeader = 0
+errorValue error.PastBuffer = 0
+
+abbrev pub refusalValue : Refusal → ℕ
+refusalValue (refusal.Driver e) = errorValue e
+refusalValue refusal.Unrecorded = 0
+refusalValue refusal.WrongAnswer = 0
+refusalValue refusal.LogFull = 0
+refusalValue refusal.BufferLength = 0
+
+-- poll's value: 0, 1 frame, 2 failed
+abbrev pub pollValue : WlanPollResult → ℕ
+pollValue poll.None = 0
+pollValue poll.Rx = 1
+pollValue (poll.ConnectFailed f) = 2
+
+-- the refusal, 0 for success
+abbrev pub refusalOf : Outcome → ℕ
+refusalOf outcome.Done = 0
+refusalOf (outcome.Polled p) = 0
+refusalOf (outcome.Taken n) = 0
+refusalOf (outcome.Mac n) = 0
+refusalOf (outcome.Word n) = 0
+refusalOf (outcome.Refused r) = numberOf r
+
+-- the value, 0 where none
+abbrev pub valueOf : Outcome → ℕ
+valueOf outcome.Done = 0
+valueOf (outcome.Polled p) = pollValue p
+valueOf (outcome.Taken n) = n
+valueOf (outcome.Mac n) = n
+valueOf (outcome.Word n) = n
+valueOf (outcome.Refused r) = refusalValue r

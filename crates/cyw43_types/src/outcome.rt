@@ -1,0 +1,146 @@
+// How a call ends. `specs/Outcome.antt` gives each case its number.
+use crate::link::WifiConnectFailure;
+ghost use mathlib.Core.Path.{_≡_};
+ghost use Rattle.cyw43_types.specs.Outcome as to;
+
+// What the driver itself ends a call with: the Rust's `DevError`s, and where the Rust panics.
+pub enum DriverError {
+    InvalidArg,
+    Timeout,
+    Io,
+    Busy,
+    WouldBlock,
+    NoMem,
+    // A bus fault, with its place.
+    Fault(u8),
+    // An event's header length is above its size.
+    EventHeader,
+    // A copied part ends past the work buffer.
+    PastBuffer,
+}
+
+// After any but the driver's own error all is as it was before the call.
+pub enum Refusal {
+    Driver(DriverError),
+    // The next answer is not wholly recorded.
+    Unrecorded,
+    // The next answer is not one to the operation.
+    WrongAnswer,
+    // The operation does not fit the log.
+    LogFull,
+    // The work buffer has another length.
+    BufferLength,
+}
+
+pub enum WlanPollResult {
+    None,
+    Rx,
+    ConnectFailed(WifiConnectFailure),
+}
+
+pub enum Outcome {
+    Done,
+    Polled(WlanPollResult),
+    // A frame of this length was given out.
+    Taken(u16),
+    // Six bytes, the first one highest.
+    Mac(u64),
+    Word(u32),
+    Refused(Refusal),
+}
+
+pub fn error_number(e: DriverError) -> u32
+    ensures { λ n. ⌜ n ≡ to.errorNumber e ⌝ }
+{
+    match e {
+        DriverError::InvalidArg => 1,
+        DriverError::Timeout => 2,
+        DriverError::Io => 3,
+        DriverError::Busy => 4,
+        DriverError::WouldBlock => 5,
+        DriverError::NoMem => 6,
+        DriverError::Fault(_) => 7,
+        DriverError::EventHeader => 10,
+        DriverError::PastBuffer => 11,
+    }
+}
+
+// The refusal's number in document 01.
+pub fn number_of(r: Refusal) -> u32
+    ensures { λ n. ⌜ n ≡ to.numberOf r ⌝ }
+{
+    match r {
+        Refusal::Driver(e) => error_number(e),
+        Refusal::Unrecorded => 8,
+        Refusal::WrongAnswer => 9,
+        Refusal::LogFull => 12,
+        Refusal::BufferLength => 13,
+    }
+}
+
+// The refusal's number, 0 for success.
+pub fn refusal_of(o: Outcome) -> u32
+    ensures { λ n. ⌜ n ≡ to.refusalOf o ⌝ }
+{
+    match o {
+        Outcome::Done => 0,
+        Outcome::Polled(_) => 0,
+        Outcome::Taken(_) => 0,
+        Outcome::Mac(_) => 0,
+        Outcome::Word(_) => 0,
+        Outcome::Refused(r) => number_of(r),
+    }
+}
+
+// A fault's place, else 0.
+pub fn error_value(e: DriverError) -> u64
+    ensures { λ n. ⌜ n ≡ to.errorValue e ⌝ }
+{
+    match e {
+        DriverError::InvalidArg => 0,
+        DriverError::Timeout => 0,
+        DriverError::Io => 0,
+        DriverError::Busy => 0,
+        DriverError::WouldBlock => 0,
+        DriverError::NoMem => 0,
+        DriverError::Fault(p) => p as u64,
+        DriverError::EventHeader => 0,
+        DriverError::PastBuffer => 0,
+    }
+}
+
+pub fn refusal_value(r: Refusal) -> u64
+    ensures { λ n. ⌜ n ≡ to.refusalValue r ⌝ }
+{
+    match r {
+        Refusal::Driver(e) => error_value(e),
+        Refusal::Unrecorded => 0,
+        Refusal::WrongAnswer => 0,
+        Refusal::LogFull => 0,
+        Refusal::BufferLength => 0,
+    }
+}
+
+pub fn poll_value(p: WlanPollResult) -> u64
+    ensures { λ n. ⌜ n ≡ to.pollValue p ⌝ }
+{
+    match p {
+        WlanPollResult::None => 0,
+        WlanPollResult::Rx => 1,
+        WlanPollResult::ConnectFailed(_) => 2,
+    }
+}
+
+// The value, 0 where there is none.
+pub fn value_of(o: Outcome) -> u64
+    ensures { λ n. ⌜ n ≡ to.valueOf o ⌝ }
+{
+    match o {
+        Outcome::Done => 0,
+        Outcome::Polled(p) => poll_value(p),
+        Outcome::Taken(n) => n as u64,
+        Outcome::Mac(n) => n,
+        Outcome::Word(n) => n as u64,
+        Outcome::Refused(r) => refusal_value(r),
+    }
+}
