@@ -1,0 +1,13 @@
+pub mod Bus
+pub mod Prog
+pub mod Packet
+pub mod Scan
+pub mod Event
+pub mod Request
+pub mod Device
+pub mod Send
+pub mod Ioctl
+pub mod Poll
+pub mod Join
+pub mod Calls
+pub mod Run

@@ -1,0 +1,4 @@
+// The definition stands in specs/: what the driver's functions are proved to equal.
+pub fn refusals() -> u32 {
+    13
+}
