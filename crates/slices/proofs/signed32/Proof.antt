@@ -1,0 +1,32 @@
+use borrow.Author.Needs.{needs}
+use borrow.Author.Tests.{lt-ltb, le-ltb}
+use Prim.Native.Nat.{ℕ, _-_}
+use mathlib.Core.Path.{_≡_, ap}
+use native.Mathlib.Omega.{arith}
+use lib.IntN.{negsuc}
+use Rattle.slices.specs.Le.{signed32}
+use Rattle.slices.proofs.signed32.Statement.{statement}
+use Rattle.slices.proofs.signed32.Tie as tie
+
+cast-result : tie.Need-cast-result
+cast-result c = search needs
+
+sub-n : tie.Need-sub-n
+sub-n c = search needs
+
+cast-result-2 : tie.Need-cast-result-2
+cast-result-2 c = search needs
+
+returns : tie.Need-returns
+unfolding signed32
+returns c = simp (lt-ltb _ _ (c .if1 .taken))
+
+returns-2 : tie.Need-returns-2
+unfolding signed32
+returns-2 c =
+    let x : ℕ = c .before .args .x in
+    let e : 4294967295 - (4294967295 - x) ≡ x = omega arith in
+    simp (e, le-ltb _ _ (c .if1 .left)) (ap negsuc (omega arith))
+
+pub signed32-spec : {M : Type 1} → statement M
+signed32-spec = tie.close (tie.spec cast-result sub-n cast-result-2 returns returns-2)
