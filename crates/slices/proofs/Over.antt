@@ -1,6 +1,5 @@
 -- The laws of `over`. Those above the line hold with no side condition, so that `simp` and `rw` apply them by name.
--- Assumes nothing.
-use mathlib.Core.Path.{_≡_, refl, sym, ap, _∙_, subst}
+use mathlib.Core.Path.{_≡_, refl, sym, ap, _∙_}
 use mathlib.Core.List.{List, [], _∷_, _++_, append-nil, append-assoc}
 use Prim.Native.Nat.{ℕ, zero, suc, _+_, _-_, _≤_, _<_, min, zero-le, suc-le-suc}
 use native.Mathlib.Nat.{zero-add, suc-add, add-zero, add-suc, le-of-suc-le-suc, not-suc-le-zero}
@@ -205,6 +204,10 @@ module _ {ℓ} {A : Type ℓ} where
   getD-between l n e i z h k =
       let q : n + (i - n) ≡ i = omega arith in
       rw (getD-drop, q) (getD-take e l i z k)
+
+  -- the part `&s[from..]`
+  pub part-rest : (s : List A) (from : ℕ) → take (length s - from) (drop from s) ≡ drop from s
+  part-rest s from = take-all (length s - from) (drop from s) (omega (arith, length-drop from s))
 
   -- with no side condition: `omega` takes it in its list
   pub length-part : (s : List A) (from n : ℕ) → length (take n (drop from s)) ≡ min n (length s - from)

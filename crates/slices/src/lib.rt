@@ -82,47 +82,45 @@ pub fn byte_at(s: &[u8], i: usize) -> u8
     if i < s.len() { s[i] } else { 0 }
 }
 
-// The byte k after index at, where at + k may be no usize.
-fn after(s: &[u8], at: usize, k: usize) -> u32
-    ensures { λ r. ⌜ (r ≡ getD (now (s .entry)) (at + k) 0) × (r < 256) ⌝ }
+// The byte k after index at, also where at + k is too large for an index.
+pub fn byte_after(s: &[u8], at: usize, k: usize) -> u8
+    ensures { λ r. ⌜ r ≡ getD (now (s .entry)) (at + k) 0 ⌝ }
 {
-    if s.len() <= at {
-        return 0;
+    if at < s.len() {
+        byte_at(&s[at..], k)
+    } else {
+        0
     }
-    if s.len() - at <= k {
-        return 0;
-    }
-    wide(s[at + k])
 }
 
 pub fn get_le16(s: &[u8], at: usize) -> u16
     ensures { λ r. ⌜ r ≡ le16At (now (s .entry)) at ⌝ }
 {
-    (wide(byte_at(s, at)) + 256 * after(s, at, 1)) as u16
+    (wide(byte_at(s, at)) + 256 * wide(byte_after(s, at, 1))) as u16
 }
 
 pub fn get_le32(s: &[u8], at: usize) -> u32
     ensures { λ r. ⌜ r ≡ le32At (now (s .entry)) at ⌝ }
 {
     wide(byte_at(s, at))
-        + 256 * after(s, at, 1)
-        + 65536 * after(s, at, 2)
-        + 16777216 * after(s, at, 3)
+        + 256 * wide(byte_after(s, at, 1))
+        + 65536 * wide(byte_after(s, at, 2))
+        + 16777216 * wide(byte_after(s, at, 3))
 }
 
 pub fn get_be16(s: &[u8], at: usize) -> u16
     ensures { λ r. ⌜ r ≡ be16At (now (s .entry)) at ⌝ }
 {
-    (256 * wide(byte_at(s, at)) + after(s, at, 1)) as u16
+    (256 * wide(byte_at(s, at)) + wide(byte_after(s, at, 1))) as u16
 }
 
 pub fn get_be32(s: &[u8], at: usize) -> u32
     ensures { λ r. ⌜ r ≡ be32At (now (s .entry)) at ⌝ }
 {
     16777216 * wide(byte_at(s, at))
-        + 65536 * after(s, at, 1)
-        + 256 * after(s, at, 2)
-        + after(s, at, 3)
+        + 65536 * wide(byte_after(s, at, 1))
+        + 256 * wide(byte_after(s, at, 2))
+        + wide(byte_after(s, at, 3))
 }
 
 // Byte j of w, 0 the lowest.
