@@ -1,12 +1,16 @@
--- The laws of `bytesOf` and `packed`.
+-- The laws of `bytesOf` and `packed`, and one of signed numbers.
 use mathlib.Core.Path.{_≡_, refl, sym, ap, _∙_}
 use mathlib.Core.List.{List, [], _∷_, _++_}
-use Prim.Native.Nat.{ℕ, zero, suc, _+_, _*_, _/_, _%_, _<_}
+use Prim.Native.Nat.{ℕ, zero, suc, _+_, _*_, _-_, _/_, _%_, _^_, _≤_, _<_}
 use native.Mathlib.Nat.{suc-add}
 use native.Mathlib.Numerals.{add-one}
 use native.Mathlib.Omega.{arith}
 use lib.ListN.{length, take, drop, getD}
 use lib.Seq.{take-suc}
+use lib.IntN.{negsuc}
+use borrow.Author.Tests.{le-ltb}
+use mir.Syntax.{Width}
+use mir.Val.{toZ, bits, hbits}
 use Rattle.slices.specs.Le.{le32, le32At, bytesOf, packed, wordsFor}
 
 pub length-bytesOf : (ws : List ℕ) → length (bytesOf ws) ≡ 4 * length ws
@@ -71,3 +75,9 @@ getD-packed (a ∷ b ∷ c ∷ []) zero = omega arith
 getD-packed (a ∷ b ∷ c ∷ []) (suc i) = simp (four, suc-add)
 getD-packed (a ∷ b ∷ c ∷ d ∷ s) zero = refl
 getD-packed (a ∷ b ∷ c ∷ d ∷ s) (suc i) = simp (four, suc-add) (getD-packed s i)
+
+-- in a width whose largest number is m, the complement of m - x is a number below zero
+pub signed-high : (w : Width) (m x : ℕ) → 2 ^ bits w ≡ suc m → 2 ^ hbits w ≤ x → x ≤ m → toZ w (m - (m - x)) ≡ negsuc (m - x)
+signed-high w m x e h k =
+    let q : m - (m - x) ≡ x = omega arith in
+    simp (q, le-ltb _ _ h, e) (ap negsuc (omega arith))

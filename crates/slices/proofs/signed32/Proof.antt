@@ -1,10 +1,9 @@
 use borrow.Author.Needs.{needs}
 use borrow.Author.Tests.{lt-ltb, le-ltb}
-use Prim.Native.Nat.{ℕ, _-_}
-use mathlib.Core.Path.{_≡_, ap}
-use native.Mathlib.Omega.{arith}
-use lib.IntN.{negsuc}
+use mathlib.Core.Path.{refl}
+use mir.Syntax.{w32}
 use Rattle.slices.specs.Le.{signed32}
+use Rattle.slices.proofs.Le.{signed-high}
 use Rattle.slices.proofs.signed32.Statement.{statement}
 use Rattle.slices.proofs.signed32.Tie as tie
 
@@ -23,10 +22,7 @@ returns c = simp (lt-ltb _ _ (c .if1 .taken))
 
 returns-2 : tie.Need-returns-2
 unfolding signed32
-returns-2 c =
-    let x : ℕ = c .before .args .x in
-    let e : 4294967295 - (4294967295 - x) ≡ x = omega arith in
-    simp (e, le-ltb _ _ (c .if1 .left)) (ap negsuc (omega arith))
+returns-2 c = simp (le-ltb _ _ (c .if1 .left)) (signed-high w32 4294967295 (c .before .args .x) refl (c .if1 .left) (search needs))
 
 pub signed32-spec : {M : Type 1} → statement M
 signed32-spec = tie.close (tie.spec cast-result sub-n cast-result-2 returns returns-2)
