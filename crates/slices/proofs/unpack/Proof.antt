@@ -50,7 +50,7 @@ same-length : tie.Need-same-length Inv-loop μ-loop
 same-length c = c .before .loop .inv .1 .len
 
 returns : tie.Need-returns Inv-loop μ-loop
-returns c = c .before .loop .inv .1 .is ∙ ap (λ ws. over (c .before .before .before .before .args .dst .now) 0 (bytesOf ws)) (take-all _ _ (c .loop-test .left))
+returns c = rw (take-all _ _ (c .loop-test .left)) at (c .before .loop .inv .1 .is)
 
 pub unpack-spec : {M : Type 1} → statement M
 unpack-spec =
