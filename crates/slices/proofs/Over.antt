@@ -1,4 +1,4 @@
--- The laws of `over`. Those above the line hold with no side condition, so that `simp` and `rw` apply them by name.
+-- The laws of `over`. Those of the first group have no side condition, so that `simp` and `rw` apply them by name.
 use mathlib.Core.Path.{_≡_, refl, sym, ap, _∙_}
 use mathlib.Core.List.{List, [], _∷_, _++_, append-nil, append-assoc}
 use Prim.Native.Nat.{ℕ, zero, suc, _+_, _-_, _≤_, _<_, min, zero-le, suc-le-suc}
@@ -59,6 +59,8 @@ module _ {ℓ} {A : Type ℓ} where
   over-cons (x ∷ d) zero v s = refl
   over-cons (x ∷ d) (suc at) v s = ap (λ (l : List A). x ∷ l) (over-cons d at v s)
 
+  -- ---- with a side condition
+
   -- a later run hides what lies below it
   pub over-hides : (d : List A) (at : ℕ) (s u t : List A) → length u ≤ length t → over (over d at (s ++ u)) (at + length s) t ≡ over d at (s ++ t)
   unfolding over
@@ -68,8 +70,6 @@ module _ {ℓ} {A : Type ℓ} where
   over-hides (x ∷ d) zero [] (y ∷ u) (z ∷ t) h = ap (λ (l : List A). z ∷ l) (over-hides d zero [] u t (le-of-suc-le-suc h))
   over-hides (x ∷ d) zero (y ∷ s) u t h = rw add-suc (ap (λ (l : List A). y ∷ l) (over-hides d zero s u t h))
   over-hides (x ∷ d) (suc at) s u t h = rw suc-add (ap (λ (l : List A). x ∷ l) (over-hides d at s u t h))
-
-  -- ---- with a side condition
 
   -- `over`, said with take and drop
   pub over-parts : (d : List A) (at : ℕ) (s : List A) → at + length s ≤ length d → over d at s ≡ take at d ++ (s ++ drop (at + length s) d)
@@ -105,6 +105,41 @@ module _ {ℓ} {A : Type ℓ} where
   getD-over-after (x ∷ d) (suc at) s zero z h = absurd (omega arith)
   getD-over-after (x ∷ d) (suc at) s (suc k) z h = getD-over-after d at s k z (omega arith)
 
+  -- a run as long as the list is the list
+  pub over-whole : (d s : List A) → length s ≡ length d → over d 0 s ≡ s
+  unfolding over
+  over-whole [] [] h = refl
+  over-whole [] (y ∷ s) h = absurd (omega arith)
+  over-whole (x ∷ d) [] h = absurd (omega arith)
+  over-whole (x ∷ d) (y ∷ s) h = ap (λ (l : List A). y ∷ l) (over-whole d s (omega arith))
+
+  -- ---- parts of a list
+
+  -- a part of a part
+  pub drop-take : (n m : ℕ) (l : List A) → drop n (take (n + m) l) ≡ take m (drop n l)
+  drop-take zero m l = rw zero-add
+  drop-take (suc n) zero [] = rw add-zero
+  drop-take (suc n) (suc m) [] = rw add-suc
+  drop-take (suc n) m (x ∷ l) = rw suc-add (drop-take n m l)
+
+  -- the element i of a part
+  pub getD-part : (s : List A) (from n i : ℕ) (z : A) → i < n → getD (take n (drop from s)) i z ≡ getD s (from + i) z
+  getD-part s from n i z h = rw (getD-take n (drop from s) i z h, getD-drop)
+
+  -- the same of the part from n up to, not including, e, by the whole's index i
+  pub getD-between : (l : List A) (n e i : ℕ) (z : A) → n ≤ i → i < e → getD (drop n (take e l)) (i - n) z ≡ getD l i z
+  getD-between l n e i z h k =
+      let q : n + (i - n) ≡ i = omega arith in
+      rw (getD-drop, q) (getD-take e l i z k)
+
+  -- the part `&s[from..]`
+  pub part-rest : (s : List A) (from : ℕ) → take (length s - from) (drop from s) ≡ drop from s
+  part-rest s from = take-all (length s - from) (drop from s) (omega (arith, length-drop from s))
+
+  -- with no side condition: `omega` takes it in its list
+  pub length-part : (s : List A) (from n : ℕ) → length (take n (drop from s)) ≡ min n (length s - from)
+  length-part s from n = rw (length-take, length-drop)
+
   -- ---- a part that was lent, `&mut xs[a..]` or `&mut xs[a..e]`, and has come back
 
   over-front : (xs : List A) (k at : ℕ) (s : List A) → at + length s ≤ k → over (take k xs) at s ++ drop k xs ≡ over xs at s
@@ -124,14 +159,6 @@ module _ {ℓ} {A : Type ℓ} where
   over-part xs zero k at s h = rw zero-add (over-front xs k at s h)
   over-part [] (suc a) k at s h = rw (take-nil, drop-nil)
   over-part (x ∷ xs) (suc a) k at s h = rw suc-add (ap (λ (l : List A). x ∷ l) (over-part xs a k at s h))
-
-  -- a run as long as the list is the list
-  pub over-whole : (d s : List A) → length s ≡ length d → over d 0 s ≡ s
-  unfolding over
-  over-whole [] [] h = refl
-  over-whole [] (y ∷ s) h = absurd (omega arith)
-  over-whole (x ∷ d) [] h = absurd (omega arith)
-  over-whole (x ∷ d) (y ∷ s) h = ap (λ (l : List A). y ∷ l) (over-whole d s (omega arith))
 
   -- ---- a loop that lays runs down over d₀ from index at on: the run s is down, and d is the list at the loop's head
 
@@ -187,28 +214,3 @@ module _ {ℓ} {A : Type ℓ} where
   -- what lies before the part that is down is as it was
   pub backed-before : {d₀ d : List A} {at : ℕ} {s : List A} {i : ℕ} (z : A) {k : ℕ} → Backed d₀ at s i d → k < at + i → getD d k z ≡ getD d₀ k z
   backed-before {d₀} {d} {at} {s} {i} z {k} l h = rw (l .is) (getD-over-before d₀ (at + i) (drop i s) k z h)
-
-  -- a part of a part
-  pub drop-take : (n m : ℕ) (l : List A) → drop n (take (n + m) l) ≡ take m (drop n l)
-  drop-take zero m l = rw zero-add
-  drop-take (suc n) zero [] = rw add-zero
-  drop-take (suc n) (suc m) [] = rw add-suc
-  drop-take (suc n) m (x ∷ l) = rw suc-add (drop-take n m l)
-
-  -- the element i of a part
-  pub getD-part : (s : List A) (from n i : ℕ) (z : A) → i < n → getD (take n (drop from s)) i z ≡ getD s (from + i) z
-  getD-part s from n i z h = rw (getD-take n (drop from s) i z h, getD-drop)
-
-  -- the same of the part from n up to, not including, e, by the whole's index i
-  pub getD-between : (l : List A) (n e i : ℕ) (z : A) → n ≤ i → i < e → getD (drop n (take e l)) (i - n) z ≡ getD l i z
-  getD-between l n e i z h k =
-      let q : n + (i - n) ≡ i = omega arith in
-      rw (getD-drop, q) (getD-take e l i z k)
-
-  -- the part `&s[from..]`
-  pub part-rest : (s : List A) (from : ℕ) → take (length s - from) (drop from s) ≡ drop from s
-  part-rest s from = take-all (length s - from) (drop from s) (omega (arith, length-drop from s))
-
-  -- with no side condition: `omega` takes it in its list
-  pub length-part : (s : List A) (from n : ℕ) → length (take n (drop from s)) ≡ min n (length s - from)
-  length-part s from n = rw (length-take, length-drop)

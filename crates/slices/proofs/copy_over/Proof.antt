@@ -1,3 +1,4 @@
+-- i elements of src are down.
 use borrow.Author.Needs.{needs}
 use Prim.Native.Nat.{_-_, _≤_}
 use mathlib.Core.Path.{refl}

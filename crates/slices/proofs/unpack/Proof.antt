@@ -1,3 +1,4 @@
+-- The bytes of i words are down.
 use borrow.Author.Needs.{needs}
 use Prim.Native.Nat.{_-_, _≤_, _<_}
 use mathlib.Core.Path.{ap, _∙_}
