@@ -1,11 +1,9 @@
 -- The bytes of i words are down.
 use borrow.Author.Needs.{needs}
 use Prim.Native.Nat.{_-_, _≤_, _<_}
-use mathlib.Core.Path.{ap, _∙_}
 use native.Mathlib.Omega.{arith}
 use lib.ListN.{length, take, getD, length-take}
 use lib.Seq.{take-all}
-use Rattle.slices.specs.Over.{over}
 use Rattle.slices.specs.Le.{le32, bytesOf}
 use Rattle.slices.proofs.Over.{Run, run-none, run-more}
 use Rattle.slices.proofs.Le.{length-bytesOf, bytesOf-more}
