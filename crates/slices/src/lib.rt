@@ -1,3 +1,204 @@
-pub fn wide(b: u8) -> u32 {
+// Loops over slices, and numbers as bytes. Each contract is an equation: of the result, or of the lent slice at exit.
+// le and be are byte orders; a byte past a slice's end counts as 0.
+ghost use mathlib.Core.Path.{_≡_};
+ghost use Prim.Native.Nat.{_+_, _*_, _≤_, _<_};
+ghost use lib.ListN.{length, take, drop, replicate, getD};
+ghost use Rattle.slices.specs.Over.{over};
+ghost use Rattle.slices.specs.Le.{le16, le32, le16At, le32At, be16At, be32At, bytesOf, packed, wordsFor, signed16, signed32};
+
+// Copies all of src into dst from index at on.
+pub fn copy_over(dst: &mut [u8], at: usize, src: &[u8])
+    requires { ⌜ at + length (now src) ≤ length (now dst) ⌝ }
+    ensures { λ _. ⌜ now (dst .exit) ≡ over (now (dst .entry)) at (now (src .entry)) ⌝ }
+{
+    let mut i = 0;
+    while i < src.len() {
+        dst[at + i] = src[i];
+        i += 1;
+    }
+}
+
+// Puts n zeros into dst from index at on.
+pub fn fill_zero(dst: &mut [u8], at: usize, n: usize)
+    requires { ⌜ at + n ≤ length (now dst) ⌝ }
+    ensures { λ _. ⌜ now (dst .exit) ≡ over (now (dst .entry)) at (replicate n 0) ⌝ }
+{
+    let mut i = 0;
+    while i < n {
+        dst[at + i] = 0;
+        i += 1;
+    }
+}
+
+// Copies the n bytes from index from on to index to on; the two ranges may overlap.
+pub fn copy_within(buf: &mut [u8], from: usize, n: usize, to: usize)
+    requires { ⌜ from + n ≤ length (now buf) ⌝ }
+    requires { ⌜ to + n ≤ length (now buf) ⌝ }
+    ensures { λ _. ⌜ now (buf .exit) ≡ over (now (buf .entry)) to (take n (drop from (now (buf .entry)))) ⌝ }
+{
+    if to <= from {
+        copy_down(buf, from, n, to);
+    } else {
+        copy_up(buf, from, n, to);
+    }
+}
+
+// The same where to is at most from: front first.
+fn copy_down(buf: &mut [u8], from: usize, n: usize, to: usize)
+    requires { ⌜ to ≤ from ⌝ }
+    requires { ⌜ from + n ≤ length (now buf) ⌝ }
+    ensures { λ _. ⌜ now (buf .exit) ≡ over (now (buf .entry)) to (take n (drop from (now (buf .entry)))) ⌝ }
+{
+    let mut i = 0;
+    while i < n {
+        buf[to + i] = buf[from + i];
+        i += 1;
+    }
+}
+
+// The same where to is at least from: end first.
+fn copy_up(buf: &mut [u8], from: usize, n: usize, to: usize)
+    requires { ⌜ from ≤ to ⌝ }
+    requires { ⌜ to + n ≤ length (now buf) ⌝ }
+    ensures { λ _. ⌜ now (buf .exit) ≡ over (now (buf .entry)) to (take n (drop from (now (buf .entry)))) ⌝ }
+{
+    let mut i = n;
+    while 0 < i {
+        i -= 1;
+        buf[to + i] = buf[from + i];
+    }
+}
+
+pub fn wide(b: u8) -> u32
+    ensures { λ r. ⌜ (r ≡ b) × (r < 256) ⌝ }
+{
     b as u32
+}
+
+// The byte at index i.
+pub fn byte_at(s: &[u8], i: usize) -> u8
+    ensures { λ r. ⌜ r ≡ getD (now (s .entry)) i 0 ⌝ }
+{
+    if i < s.len() { s[i] } else { 0 }
+}
+
+// The byte k after index at, also where at + k is too large for an index.
+pub fn byte_after(s: &[u8], at: usize, k: usize) -> u8
+    ensures { λ r. ⌜ r ≡ getD (now (s .entry)) (at + k) 0 ⌝ }
+{
+    if at < s.len() {
+        byte_at(&s[at..], k)
+    } else {
+        0
+    }
+}
+
+pub fn get_le16(s: &[u8], at: usize) -> u16
+    ensures { λ r. ⌜ r ≡ le16At (now (s .entry)) at ⌝ }
+{
+    (wide(byte_at(s, at)) + 256 * wide(byte_after(s, at, 1))) as u16
+}
+
+pub fn get_le32(s: &[u8], at: usize) -> u32
+    ensures { λ r. ⌜ r ≡ le32At (now (s .entry)) at ⌝ }
+{
+    wide(byte_at(s, at))
+        + 256 * wide(byte_after(s, at, 1))
+        + 65536 * wide(byte_after(s, at, 2))
+        + 16777216 * wide(byte_after(s, at, 3))
+}
+
+pub fn get_be16(s: &[u8], at: usize) -> u16
+    ensures { λ r. ⌜ r ≡ be16At (now (s .entry)) at ⌝ }
+{
+    (256 * wide(byte_at(s, at)) + wide(byte_after(s, at, 1))) as u16
+}
+
+pub fn get_be32(s: &[u8], at: usize) -> u32
+    ensures { λ r. ⌜ r ≡ be32At (now (s .entry)) at ⌝ }
+{
+    16777216 * wide(byte_at(s, at))
+        + 65536 * wide(byte_after(s, at, 1))
+        + 256 * wide(byte_after(s, at, 2))
+        + wide(byte_after(s, at, 3))
+}
+
+// Byte j of w, 0 the lowest.
+pub fn byte_of(w: u32, j: usize) -> u8
+    requires { ⌜ j < 4 ⌝ }
+    ensures { λ r. ⌜ r ≡ getD (le32 w) j 0 ⌝ }
+{
+    match j {
+        0 => (w % 256) as u8,
+        1 => (w / 256 % 256) as u8,
+        2 => (w / 65536 % 256) as u8,
+        _ => (w / 16777216 % 256) as u8,
+    }
+}
+
+// Puts the two bytes of n into dst from index at on.
+pub fn put_le16(dst: &mut [u8], at: usize, n: u16)
+    requires { ⌜ at + 2 ≤ length (now dst) ⌝ }
+    ensures { λ _. ⌜ now (dst .exit) ≡ over (now (dst .entry)) at (le16 n) ⌝ }
+{
+    dst[at] = (n % 256) as u8;
+    dst[at + 1] = (n / 256 % 256) as u8;
+}
+
+// Puts the four bytes of w into dst from index at on.
+pub fn put_le32(dst: &mut [u8], at: usize, w: u32)
+    requires { ⌜ at + 4 ≤ length (now dst) ⌝ }
+    ensures { λ _. ⌜ now (dst .exit) ≡ over (now (dst .entry)) at (le32 w) ⌝ }
+{
+    dst[at] = (w % 256) as u8;
+    dst[at + 1] = (w / 256 % 256) as u8;
+    dst[at + 2] = (w / 65536 % 256) as u8;
+    dst[at + 3] = (w / 16777216 % 256) as u8;
+}
+
+// Puts the bytes of all the words into dst from index 0 on.
+pub fn unpack(dst: &mut [u8], words: &[u32])
+    requires { ⌜ 4 * length (now words) ≤ length (now dst) ⌝ }
+    ensures { λ _. ⌜ now (dst .exit) ≡ over (now (dst .entry)) 0 (bytesOf (now (words .entry))) ⌝ }
+{
+    let mut i = 0;
+    while i < words.len() {
+        put_le32(dst, 4 * i, words[i]);
+        i += 1;
+    }
+}
+
+// Puts the bytes, packed into words, into log from index at on.
+pub fn pack(log: &mut [u32], at: usize, bytes: &[u8])
+    requires { ⌜ at + wordsFor (length (now bytes)) ≤ length (now log) ⌝ }
+    ensures { λ _. ⌜ now (log .exit) ≡ over (now (log .entry)) at (packed (now (bytes .entry))) ⌝ }
+{
+    let m = (bytes.len() + 3) / 4;
+    let mut i = 0;
+    while i < m {
+        log[at + i] = get_le32(bytes, 4 * i);
+        i += 1;
+    }
+}
+
+pub fn signed16(x: u16) -> i16
+    ensures { λ r. ⌜ r ≡ signed16 x ⌝ }
+{
+    if x < 32768 {
+        x as i16
+    } else {
+        let n = 65535 - x;
+        !(n as i16)
+    }
+}
+
+pub fn signed32(x: u32) -> i32
+    ensures { λ r. ⌜ r ≡ signed32 x ⌝ }
+{
+    if x < 2147483648 {
+        x as i32
+    } else {
+        let n = 4294967295 - x;
+        !(n as i32)
+    }
 }
