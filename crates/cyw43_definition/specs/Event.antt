@@ -37,7 +37,7 @@ scanResult e =
       bssid = take 6 (drop 68 e);
       «ssid_len» = n;
       channel = getD e 132 0;
-      rssi = signed16 (le16At e 138)
+      rssi = signed16 (le16At e 138);
     }
 
 -- 'be flags 2, type 4, status 8, reason 12'
@@ -49,7 +49,7 @@ eventOf part len =
       «event_type» = be32At e 4;
       status = be32At e 8;
       reason = be32At e 12;
-      «scan_result» = scanResult e
+      «scan_result» = scanResult e;
     }
 
 -- ---- the connection

@@ -11,3 +11,6 @@ pub mod Poll
 pub mod Join
 pub mod Calls
 pub mod Run
+pub mod Player
+pub mod Open
+pub mod Table

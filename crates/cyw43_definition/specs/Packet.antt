@@ -108,7 +108,7 @@ unfoldable pub processRx : ℕ → Bytes → Sdpcm → RxPacket
 processRx came b s =
     pick (isPacket b)
     (record {
-       sdpcm = accepted b s;
-       received = payloadOf (take (sizeIn b) b) (sizeIn b) (channelIn b) (headerLengthIn b) (s .«requested_ioctl_id»)
-     })
+      sdpcm = accepted b s;
+      received = payloadOf (take (sizeIn b) b) (sizeIn b) (channelIn b) (headerLengthIn b) (s .«requested_ioctl_id»);
+    })
     (record { sdpcm = s; received = Received.Packet SdpcmPacket.None })

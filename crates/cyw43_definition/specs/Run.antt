@@ -119,7 +119,7 @@ shown log out r =
       buf = r .world .buf;
       log = over log 0 (logOf (r .ops));
       len = length (logOf (r .ops));
-      output = over out 0 (r .output)
+      output = over out 0 (r .output);
     }
 
 -- the call with its history; 13: the work buffer is not 2,048 bytes
