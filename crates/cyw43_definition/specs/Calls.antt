@@ -11,7 +11,7 @@ use Rattle.cyw43_types.specs.State.{withScan, withPending, withLink, setFrame, 
 use Rattle.cyw43_types.specs.declared.link.WifiState.{WifiState}
 use Rattle.cyw43_types.specs.declared.link.StartedTick.{StartedTick}
 use Rattle.cyw43_types.specs.declared.outcome.DriverError.{DriverError}
-use Rattle.cyw43_types.specs.declared.outcome.Outcome.{Outcome}
+use Rattle.cyw43_types.specs.declared.outcome.Success.{Success}
 use Rattle.cyw43_types.specs.declared.pending.PendingRx.{PendingRx}
 use Rattle.cyw43_types.specs.declared.state.State.{State}
 use Rattle.cyw43_definition.specs.Bus.{Bytes, Op, nowhere}
@@ -50,7 +50,7 @@ pub data Call : Type 0 where
   up : Call
 
 abbrev done : M Result
-done = giving Outcome.Done
+done = giving Success.Done
 
 -- ---- init
 
@@ -116,7 +116,7 @@ taken n PendingRx.None w = stop DriverError.WouldBlock w
 taken n (PendingRx.Some f) w =
     pick (ltb n (f .len)) (stop DriverError.NoMem (frameless w))
     (pick (ltb 2048 (f .offset + f .len)) (stop DriverError.PastBuffer (frameless w))
-    (ret (record { outcome = Outcome.Taken (f .len); output = take (f .len) (drop (f .offset) (w .buf)) }) (frameless w)))
+    (ret (record { success = Success.Taken (f .len); output = take (f .len) (drop (f .offset) (w .buf)) }) (frameless w)))
 
 -- ---- requests
 
@@ -144,11 +144,11 @@ macIn b =
     + getD b 33 0
 
 unfoldable pub mac : M Result
-mac = exchange currentAddress >> (λ w. giving (Outcome.Mac (macIn (w .buf))) w)
+mac = exchange currentAddress >> (λ w. giving (Success.Mac (macIn (w .buf))) w)
 
 unfoldable pub get : ℕ → ℕ → M Result
 get cmd i w =
-    pick (isCommand cmd && isInterface i) ((exchange (getWord cmd i) >> (λ v. giving (Outcome.Word (le32At (v .buf) 28)) v)) w)
+    pick (isCommand cmd && isInterface i) ((exchange (getWord cmd i) >> (λ v. giving (Success.Word (le32At (v .buf) 28)) v)) w)
     (stop DriverError.InvalidArg w)
 
 unfoldable pub setting : ℕ → ℕ → ℕ → M Result

@@ -10,7 +10,7 @@ use Rattle.cyw43_types.specs.State.{withLink, setLinkState, setAuth}
 use Rattle.cyw43_types.specs.declared.link.WifiState.{WifiState}
 use Rattle.cyw43_types.specs.declared.link.WifiAuth.{WifiAuth}
 use Rattle.cyw43_types.specs.declared.outcome.DriverError.{DriverError}
-use Rattle.cyw43_types.specs.declared.outcome.Outcome.{Outcome}
+use Rattle.cyw43_types.specs.declared.outcome.Success.{Success}
 use Rattle.cyw43_types.specs.declared.pending.PendingResp.{PendingResp}
 use Rattle.cyw43_types.specs.declared.pending.PendingRx.{PendingRx}
 use Rattle.cyw43_types.specs.declared.state.State.{State}
@@ -113,7 +113,7 @@ ssidSent s w = pick (ltb 32 (length s)) (stop DriverError.InvalidArg w) (exchang
 
 -- an error of the last request leaves Down
 unfoldable pub downOnError : Fin (Unit {0}) → M Result
-downOnError (fine u) w = giving Outcome.Done w
+downOnError (fine u) w = giving Success.Done w
 downOnError (failed e) w = pick (isDevError e) (stop e (linked WifiState.Down w)) (stop e w)
 
 unfoldable pub lengthTested : WifiAuth → ℕ → M (Unit {0})

@@ -8,7 +8,7 @@ use Rattle.cyw43_types.specs.State.{withLink, withPending, setFailure, setFrame
 use Rattle.cyw43_types.specs.declared.link.WifiState.{WifiState}
 use Rattle.cyw43_types.specs.declared.link.ConnectFailure.{ConnectFailure}
 use Rattle.cyw43_types.specs.declared.link.StartedTick.{StartedTick}
-use Rattle.cyw43_types.specs.declared.outcome.Outcome.{Outcome}
+use Rattle.cyw43_types.specs.declared.outcome.Success.{Success}
 use Rattle.cyw43_types.specs.declared.outcome.WlanPollResult.{WlanPollResult}
 use Rattle.cyw43_types.specs.declared.pending.PendingRx.{PendingRx}
 use Rattle.cyw43_types.specs.declared.sdpcm.SdpcmPacket.{SdpcmPacket}
@@ -20,13 +20,13 @@ use Rattle.cyw43_definition.specs.Device.{pollFirst, pollBy}
 use Rattle.cyw43_definition.specs.Send.{elapsed, responseOf, storing, stallTurn}
 use Rattle.cyw43_definition.specs.Ioctl.{inTime}
 
--- what a call that was not refused gives: its outcome, and the bytes for its output
+-- what a call that was not refused gives: its success, and the bytes for its output
 pub record Result : Type 0 where
-  pub outcome : Outcome
+  pub success : Success
   pub output : Bytes
 
-abbrev pub giving : Outcome → M Result
-giving o w = ret (record { outcome = o; output = [] }) w
+abbrev pub giving : Success → M Result
+giving x w = ret (record { success = x; output = [] }) w
 
 -- ---- `poll`
 
@@ -57,15 +57,15 @@ unfailed w = withState w (withLink (w .st) (setFailure (w .st .link) ConnectFail
 
 -- a failure is reported once, and in Down only
 unfoldable pub failureReport : WifiState → ConnectFailure → M Result
-failureReport WifiState.Down ConnectFailure.None w = giving (Outcome.Polled WlanPollResult.None) w
-failureReport WifiState.Down (ConnectFailure.Some f) w = giving (Outcome.Polled (WlanPollResult.ConnectFailed f)) (unfailed w)
-failureReport WifiState.Connecting f w = giving (Outcome.Polled WlanPollResult.None) w
-failureReport WifiState.Connected f w = giving (Outcome.Polled WlanPollResult.None) w
-failureReport WifiState.Disconnecting f w = giving (Outcome.Polled WlanPollResult.None) w
+failureReport WifiState.Down ConnectFailure.None w = giving (Success.Polled WlanPollResult.None) w
+failureReport WifiState.Down (ConnectFailure.Some f) w = giving (Success.Polled (WlanPollResult.ConnectFailed f)) (unfailed w)
+failureReport WifiState.Connecting f w = giving (Success.Polled WlanPollResult.None) w
+failureReport WifiState.Connected f w = giving (Success.Polled WlanPollResult.None) w
+failureReport WifiState.Disconnecting f w = giving (Success.Polled WlanPollResult.None) w
 
 -- a frame returns at once
 unfoldable pub polled : Bool → M Result
-polled true w = giving (Outcome.Polled WlanPollResult.Rx) w
+polled true w = giving (Success.Polled WlanPollResult.Rx) w
 polled false w =
     ((λ v. disconnectTimeout (v .st .link .state) (v .st .link .«disconnect_started_tick») v)
     >> (λ v. failureReport (v .st .link .state) (v .st .link .«connect_failure») v))

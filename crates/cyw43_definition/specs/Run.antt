@@ -83,13 +83,13 @@ answered e go k wrong = rolledBack Refusal.WrongAnswer e
 
 -- 8: no answer is left
 abbrev pub unanswered : World → Rest → Run
-unanswered e (ended r w) = finished (r .outcome) (r .output) w
+unanswered e (ended r w) = finished (Outcome.Ok (r .success)) (r .output) w
 unanswered e (refused x w) = finished (Outcome.Refused (Refusal.Driver x)) [] w
 unanswered e (paused room q k) = rolledBack Refusal.Unrecorded e
 unanswered e full = rolledBack Refusal.LogFull e
 
 abbrev pub resumed : World → Answer → (ℕ → Prog Result → Run) → Rest → Run
-resumed e a go (ended r w) = finished (r .outcome) (r .output) w
+resumed e a go (ended r w) = finished (Outcome.Ok (r .success)) (r .output) w
 resumed e a go (refused x w) = finished (Outcome.Refused (Refusal.Driver x)) [] w
 resumed e a go (paused room q k) = answered e (go room) k (takenBy q a)
 resumed e a go full = rolledBack Refusal.LogFull e

@@ -6,6 +6,8 @@ use Rattle.cyw43_types.specs.declared.outcome.Refusal.{Refusal}
 use Rattle.cyw43_types.specs.declared.outcome.Refusal.the-variants as refusal
 use Rattle.cyw43_types.specs.declared.outcome.WlanPollResult.{WlanPollResult}
 use Rattle.cyw43_types.specs.declared.outcome.WlanPollResult.the-variants as poll
+use Rattle.cyw43_types.specs.declared.outcome.Success.{Success}
+use Rattle.cyw43_types.specs.declared.outcome.Success.the-variants as success
 use Rattle.cyw43_types.specs.declared.outcome.Outcome.{Outcome}
 use Rattle.cyw43_types.specs.declared.outcome.Outcome.the-variants as outcome
 
@@ -55,18 +57,17 @@ pollValue (poll.ConnectFailed f) = 2
 
 -- the refusal, 0 for success
 abbrev pub refusalOf : Outcome → ℕ
-refusalOf outcome.Done = 0
-refusalOf (outcome.Polled p) = 0
-refusalOf (outcome.Taken n) = 0
-refusalOf (outcome.Mac n) = 0
-refusalOf (outcome.Word n) = 0
+refusalOf (outcome.Ok x) = 0
 refusalOf (outcome.Refused r) = numberOf r
 
 -- the value, 0 where none
+abbrev pub successValue : Success → ℕ
+successValue success.Done = 0
+successValue (success.Polled p) = pollValue p
+successValue (success.Taken n) = n
+successValue (success.Mac n) = n
+successValue (success.Word n) = n
+
 abbrev pub valueOf : Outcome → ℕ
-valueOf outcome.Done = 0
-valueOf (outcome.Polled p) = pollValue p
-valueOf (outcome.Taken n) = n
-valueOf (outcome.Mac n) = n
-valueOf (outcome.Word n) = n
+valueOf (outcome.Ok x) = successValue x
 valueOf (outcome.Refused r) = refusalValue r

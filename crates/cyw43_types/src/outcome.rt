@@ -38,7 +38,8 @@ pub enum WlanPollResult {
     ConnectFailed(WifiConnectFailure),
 }
 
-pub enum Outcome {
+// What a call gives that was not refused.
+pub enum Success {
     Done,
     Polled(WlanPollResult),
     // A frame of this length was given out.
@@ -46,6 +47,10 @@ pub enum Outcome {
     // Six bytes, the first one highest.
     Mac(u64),
     Word(u32),
+}
+
+pub enum Outcome {
+    Ok(Success),
     Refused(Refusal),
 }
 
@@ -83,11 +88,7 @@ pub fn refusal_of(o: Outcome) -> u32
     ensures { λ n. ⌜ n ≡ to.refusalOf o ⌝ }
 {
     match o {
-        Outcome::Done => 0,
-        Outcome::Polled(_) => 0,
-        Outcome::Taken(_) => 0,
-        Outcome::Mac(_) => 0,
-        Outcome::Word(_) => 0,
+        Outcome::Ok(_) => 0,
         Outcome::Refused(r) => number_of(r),
     }
 }
@@ -132,15 +133,23 @@ pub fn poll_value(p: WlanPollResult) -> u64
 }
 
 // The value, 0 where there is none.
+pub fn success_value(x: Success) -> u64
+    ensures { λ n. ⌜ n ≡ to.successValue x ⌝ }
+{
+    match x {
+        Success::Done => 0,
+        Success::Polled(p) => poll_value(p),
+        Success::Taken(n) => n as u64,
+        Success::Mac(n) => n,
+        Success::Word(n) => n as u64,
+    }
+}
+
 pub fn value_of(o: Outcome) -> u64
     ensures { λ n. ⌜ n ≡ to.valueOf o ⌝ }
 {
     match o {
-        Outcome::Done => 0,
-        Outcome::Polled(p) => poll_value(p),
-        Outcome::Taken(n) => n as u64,
-        Outcome::Mac(n) => n,
-        Outcome::Word(n) => n as u64,
+        Outcome::Ok(x) => success_value(x),
         Outcome::Refused(r) => refusal_value(r),
     }
 }
