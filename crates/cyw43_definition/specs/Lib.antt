@@ -13,4 +13,3 @@ pub mod Calls
 pub mod Run
 pub mod Player
 pub mod Open
-pub mod Table

@@ -12,7 +12,7 @@ use Rattle.cyw43_types.specs.declared.outcome.Refusal.{Refusal}
 use Rattle.cyw43_types.specs.declared.scan.ScanList.{ScanList}
 use Rattle.cyw43_types.specs.declared.state.State.{State}
 use Rattle.cyw43_definition.specs.Bus.{Bytes, Op, wordsOf, logOf, Answer, answers, Ans, Taken, got, wrong, takenBy}
-use Rattle.cyw43_definition.specs.Prog.{World, Note, Fin, Loop, Prog, ret, stop, ask, say, loop, note, bind, attempt, turned}
+use Rattle.cyw43_definition.specs.Prog.{World, Note, Fin, Loop, Back, Prog, ret, stop, ask, say, loop, note, bind, attempt, turned}
 use Rattle.cyw43_definition.specs.Poll.{Result, first, body}
 use Rattle.cyw43_definition.specs.Calls.{Call, call}
 
@@ -48,12 +48,16 @@ words q = length (wordsOf q)
 abbrev pub fitting : ℕ → Op → (ℕ → Settled) → Settled
 fitting room q f = pick (leb (words q) room) (logged q (f (room - words q))) (at full)
 
+-- a turn of a loop, by the answer to its first operation, and on from there
+abbrev pub turning : (l : Loop) → World → (Fin (Back l) → World → Prog Result) → Ans → Prog Result
+turning l w k x = bind (attempt (body l x w)) (turned l k)
+
 unfoldable pub settle : ℕ → Prog Result → Settled
 settle room (ret r w) = at (ended r w)
 settle room (stop e w) = at (refused e w)
 settle room (ask q k) = fitting room q (λ left. at (paused left q k))
 settle room (say q p) = fitting room q (λ left. settle left p)
-settle room (loop l w k) = fitting room (first l (w .st)) (λ left. at (paused left (first l (w .st)) (λ x. bind (attempt (body l x w)) (turned l k))))
+settle room (loop l w k) = fitting room (first l (w .st)) (λ left. at (paused left (first l (w .st)) (turning l w k)))
 settle room (note n p) = noted n (settle room p)
 
 -- ---- the whole run

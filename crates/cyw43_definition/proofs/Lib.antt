@@ -1,0 +1,5 @@
+pub mod Table
+pub mod Keeps
+pub mod Buffer
+pub mod Log
+pub mod Refusals
