@@ -12,9 +12,24 @@ use crate::{
 /// The player's longest recording.
 const RECORDING: usize = 4096;
 
+/// The command of join's last request.
+const SET_SSID: u32 = 26;
+
 const STALL: u64 = 1_000_000;
 const REPLY: u64 = 500_000;
 const STARTUP: u64 = 150_000;
+
+/// Clocks at which init's start-up wait ends or begins.
+const STARTS: [u64; 8] = [
+    0,
+    1,
+    149_999,
+    150_000,
+    150_001,
+    (1 << 32) - 1,
+    (1 << 32) + 149_999,
+    (1 << 32) + 150_000,
+];
 
 pub struct Device {
     pub rng: Rng,
@@ -36,6 +51,11 @@ pub struct Device {
     cut: bool,
     /// Whether the next status is asked for a write.
     writing: bool,
+    call: u32,
+    /// Whether the next packet is an event with its header beyond its size.
+    beyond: bool,
+    /// Whether the next answer but a clock's is a fault.
+    faulty: bool,
 }
 
 impl Device {
@@ -60,11 +80,17 @@ impl Device {
             words: 0,
             cut: false,
             writing: false,
+            call: 0,
+            beyond: false,
+            faulty: false,
         }
     }
 
     /// A new call begins, in a driver with this sequence, credit and id.
     pub fn begin(&mut self, call: u32, sequence: u8, credit: u8, id: u8) {
+        self.call = call;
+        self.beyond = false;
+        self.faulty = false;
         self.writing = call != 6;
         self.view.sequence = sequence;
         self.view.credit = credit;
@@ -89,7 +115,8 @@ impl Device {
     }
 
     fn status(&mut self) -> u32 {
-        if self.run.0 == 0 && self.rng.once_in(self.temper.runs) {
+        let runs = if self.writing { self.temper.runs / 3 } else { self.temper.runs };
+        if self.run.0 == 0 && self.rng.once_in(runs) {
             let length = self.rng.pick(&[1, 2, 3, 7, 998, 999, 1000, 1001, 1002]);
             self.run = (length, !self.writing && self.rng.percent(90));
         }
@@ -99,7 +126,9 @@ impl Device {
         }
 
         let noise = if self.rng.percent(10) { self.rng.word() & 0xfff0_00dd } else { 0 };
-        if self.queued.is_none() && self.comes() {
+        if std::mem::take(&mut self.beyond) {
+            self.queued = Some(packet::beyond(&mut self.rng));
+        } else if self.queued.is_none() && self.comes() {
             self.queued = Some(packet::make(&mut self.rng, &self.view));
         }
         let Some(queued) = &self.queued else {
@@ -144,23 +173,38 @@ impl Device {
         if bytes.len() >= 12 && bytes[5] & 15 < 3 && bytes[9].wrapping_sub(self.view.credit) <= 20 {
             self.view.credit = bytes[9];
         }
-        if bytes.len() >= 6 && bytes[5] & 15 == 0 {
-            self.view.awaited = None;
+        if bytes.len() >= 12 && bytes[5] & 15 == 0 && self.answers(bytes) {
+            if self.view.awaited.take().is_some() {
+                self.began = None;
+            }
             self.writing = true;
         }
     }
 
+    /// Whether a control packet has the id of the last request.
+    fn answers(&self, bytes: &[u8]) -> bool {
+        let h = usize::from(bytes[7]);
+        bytes.get(h + 10..h + 12) == Some(&[self.view.id, 0])
+    }
+
     /// Mostly a little later; at times at a limit of the wait under way, or backwards.
     fn clock(&mut self) -> u64 {
+        let replying = self.view.awaited.is_some();
+        let stalling = !replying && self.began.is_some();
         let step = self.rng.range(1, 3_000);
         let mut now = self.clock.wrapping_add(step);
-        if self.rng.once_in(self.temper.clocks) {
+        if self.call == 1 && !replying && !stalling && self.rng.percent(30) {
+            now = self.rng.pick(&STARTS);
+        } else if self.rng.once_in(self.temper.clocks.min(if stalling { 16 } else { u64::MAX })) {
             let began = self.began.unwrap_or(0);
-            let limit = self.rng.pick(&[STALL, REPLY, STARTUP]);
-            now = match self.rng.weighted(&[6, 2, 1, 1]) {
+            let limit = match self.rng.percent(80) {
+                true if stalling => STALL,
+                true if replying => REPLY,
+                _ => self.rng.pick(&[STALL, REPLY, STARTUP]),
+            };
+            now = match self.rng.weighted(&[8, 1, 1]) {
                 0 => began.wrapping_add(limit).wrapping_add(self.rng.range(0, 2)).wrapping_sub(1),
-                1 => self.rng.pick(&[0, 1, 149_999, 150_000, 150_001, (1 << 32) + 149_999, 1 << 32]),
-                2 => began.wrapping_sub(self.rng.range(1, 9)),
+                1 => began.wrapping_sub(self.rng.range(1, 9)),
                 _ => self.rng.next(),
             };
         }
@@ -202,8 +246,16 @@ impl Source for Device {
             return Vec::new();
         }
         let mut words = self.plausible(wish);
-        if self.rng.once_in(self.temper.broken) {
+        let rate = match wish {
+            Wish::FrameControl(_) => self.temper.broken / 10,
+            _ => self.temper.broken,
+        };
+        if self.rng.once_in(rate) {
             self.cut = broken::spoil(&mut self.rng, &mut words);
+        }
+        if self.faulty && !matches!(wish, Wish::Clock) {
+            self.faulty = false;
+            words = vec![0x7000_0000 | self.rng.below(10) as u32];
         }
         if self.words + words.len() > RECORDING {
             self.cut = true;
@@ -228,6 +280,9 @@ impl Source for Device {
             // The request may lie under received bytes; the id goes up by one all the same.
             self.view.id = self.view.id.wrapping_add(1);
             self.view.awaited = Some(size.saturating_sub(28));
+            let command = u32::from_le_bytes(bytes[12..16].try_into().unwrap());
+            self.beyond = command == SET_SSID && self.rng.once_in(15);
+            self.faulty = command == SET_SSID && self.rng.once_in(15);
         }
     }
 }

@@ -87,14 +87,14 @@ fn control(rng: &mut Rng, view: &View, lies: bool) -> (Header, Vec<u8>) {
             length = asked;
         }
     }
-    let id = match rng.weighted(&[if lies { 20 } else { 90 }, 2, 2, 1, 1]) {
+    let id = match rng.weighted(&[if lies { 20 } else { 200 }, 2, 2, 1, 1]) {
         0 => u16::from(view.id),
         1 => u16::from(view.id).wrapping_sub(1),
         2 => u16::from(view.id).wrapping_add(1),
         3 => u16::from(view.id) + 256,
         _ => 0,
     };
-    let status: i32 = match rng.weighted(&[if lies { 15 } else { 60 }, 1, 1, 1]) {
+    let status: i32 = match rng.weighted(&[if lies { 15 } else { 300 }, 1, 1, 1]) {
         0 => 0,
         1 => -1,
         2 => rng.pick(&[1, -23, i32::MIN, i32::MAX, 256]),
@@ -225,6 +225,13 @@ fn lay(rng: &mut Rng, header: Header, body: Vec<u8>, credit: u8, lies: bool) -> 
     }
     bytes.truncate(count);
     Incoming { count, bytes }
+}
+
+/// An event with its header beyond its size.
+pub fn beyond(rng: &mut Rng) -> Incoming {
+    let h = rng.pick(&[13, 14, 60, 255]);
+    let size = rng.range(12, u64::from(h) - 1) as usize;
+    lay(rng, Header { size, channel: 1, h }, Vec::new(), 1, false)
 }
 
 /// Headers that are none.

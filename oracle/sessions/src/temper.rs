@@ -26,7 +26,7 @@ const CALM: Temper = Temper {
     broken: 100_000,
     lying: 60,
     runs: 2_000,
-    clocks: 200,
+    clocks: 1_000,
     arguments: 100,
     logs: 200,
     tight: false,
@@ -34,7 +34,7 @@ const CALM: Temper = Temper {
 };
 
 const ODD: Temper =
-    Temper { broken: 150, lying: 12, runs: 300, clocks: 30, arguments: 25, logs: 40, ..CALM };
+    Temper { broken: 150, lying: 12, runs: 300, clocks: 60, arguments: 25, logs: 40, ..CALM };
 
 const WILD: Temper =
     Temper { broken: 20, lying: 4, runs: 60, clocks: 8, arguments: 8, logs: 12, ..CALM };
