@@ -10,9 +10,9 @@ use std::{
 };
 
 fn fnv(bytes: &[u8]) -> u64 {
-    bytes.iter().fold(0xcbf2_9ce4_8422_2325, |h, &b| {
-        (h ^ u64::from(b)).wrapping_mul(0x0100_0000_01b3)
-    })
+    bytes
+        .iter()
+        .fold(0xcbf2_9ce4_8422_2325, |h, &b| (h ^ u64::from(b)).wrapping_mul(0x0100_0000_01b3))
 }
 
 fn lay(from: &Path, to: &Path) -> Vec<u8> {
@@ -74,7 +74,8 @@ fn main() {
     let mut root = String::new();
     for module in ["drivers", "net", "sys"] {
         let path = out.join("src").join(module).join("mod.rs");
-        root += &format!("#[allow(warnings, clippy::all)]\n#[path = {path:?}]\npub mod {module};\n");
+        root +=
+            &format!("#[allow(warnings, clippy::all)]\n#[path = {path:?}]\npub mod {module};\n");
     }
     fs::write(out.parent().unwrap().join("driver.rs"), root).unwrap();
 }

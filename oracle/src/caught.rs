@@ -54,10 +54,8 @@ fn hook() {
     });
 }
 
-const SDPCM: &str = include_str!(concat!(
-    env!("OUT_DIR"),
-    "/rust/src/drivers/wlan/cyw43/cyw43_sdpcm.rs"
-));
+const SDPCM: &str =
+    include_str!(concat!(env!("OUT_DIR"), "/rust/src/drivers/wlan/cyw43/cyw43_sdpcm.rs"));
 
 /// Whether the line of cyw43_sdpcm.rs is the subtraction of the event's length.
 fn is_event_length(line: u32) -> bool {

@@ -123,9 +123,9 @@ fn hex(bytes: &[u8]) -> String {
 }
 
 pub fn fnv(bytes: &[u8]) -> u64 {
-    bytes.iter().fold(0xcbf2_9ce4_8422_2325, |h, &b| {
-        (h ^ u64::from(b)).wrapping_mul(0x0100_0000_01b3)
-    })
+    bytes
+        .iter()
+        .fold(0xcbf2_9ce4_8422_2325, |h, &b| (h ^ u64::from(b)).wrapping_mul(0x0100_0000_01b3))
 }
 
 fn failure(f: Option<Failure>) -> String {
@@ -150,7 +150,8 @@ pub fn full_lines(result: &CallResult, oracle: &Oracle, out: &[u8], print: Print
     writeln!(text, "polled failure={}", failure(result.failure)).unwrap();
     for (i, r) in oracle.records().iter().enumerate() {
         let (ssid, bssid) = (hex(&r.ssid), hex(&r.bssid));
-        writeln!(text, "record {i} {ssid} {} {bssid} {} {}", r.ssid_len, r.channel, r.rssi).unwrap();
+        writeln!(text, "record {i} {ssid} {} {bssid} {} {}", r.ssid_len, r.channel, r.rssi)
+            .unwrap();
     }
     match print {
         Print::Hashed => writeln!(text, "buffer fnv {:016x}", fnv(oracle.buffer())),
@@ -180,8 +181,7 @@ pub fn play(input: &[u8], print: Print, capacities: bool) -> String {
             break;
         };
         let mut out = vec![0; played.output()];
-        let result =
-            oracle.call(played.call, &played.args, &played.recording, capacity, &mut out);
+        let result = oracle.call(played.call, &played.args, &played.recording, capacity, &mut out);
         text += &lines(played.call, &result, &oracle);
         if print != Print::Plain {
             text += &full_lines(&result, &oracle, &out, print);

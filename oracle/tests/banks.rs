@@ -63,9 +63,7 @@ fn pending_count() {
 
 #[test]
 fn frames() {
-    for (length, refusal, sequence) in
-        [(2022, 0, 1), (2023, 1, 1), (2030, 1, 1), (2031, 1, 0)]
-    {
+    for (length, refusal, sequence) in [(2022, 0, 1), (2023, 1, 1), (2030, 1, 1), (2031, 1, 0)] {
         let mut oracle = Oracle::new();
         let args = vec![0; 4 + length];
         let result = call(&mut oracle, 7, &args, &[READY[0], READY[1], DONE]);

@@ -15,7 +15,14 @@ fn table_examples() {
     assert_eq!(refusal(8, &words(&[60]), &[]), 5);
     assert_eq!(refusal(6, &[], &[]), 8);
     assert_eq!(refusal(6, &[], &tick(0)), 9);
-    assert_eq!(refusal(14, &[], &[&exchange(false, 2, 1)[..9], &brings(&reply(28, 12, 2, 1, -1))].concat()), 3);
+    assert_eq!(
+        refusal(
+            14,
+            &[],
+            &[&exchange(false, 2, 1)[..9], &brings(&reply(28, 12, 2, 1, -1))].concat()
+        ),
+        3
+    );
     let beyond = header(12, 1, 13, 2);
     assert_eq!(refusal(6, &[], &brings(&beyond)), 10);
     let mut oracle = fresh.clone();

@@ -10,9 +10,7 @@ const OUTPUT: &str = "14 0 0 0 1 2 0 1 15\n20000000\n6000001c\nffe3001c\n0c00000
     3000001c\n";
 
 fn bytes(hex: &str) -> Vec<u8> {
-    hex.split_whitespace()
-        .flat_map(|w| u32::from_str_radix(w, 16).unwrap().to_le_bytes())
-        .collect()
+    hex.split_whitespace().flat_map(|w| u32::from_str_radix(w, 16).unwrap().to_le_bytes()).collect()
 }
 
 fn plain(input: &[u8]) -> String {

@@ -10,9 +10,8 @@ use crate::{
     world::{CONNECTING, DISCONNECTING, DOWN, Ended, Or, Refused, World, le32},
 };
 
-const COMMANDS: [u32; 21] = [
-    2, 20, 22, 23, 25, 26, 30, 52, 63, 64, 78, 85, 86, 110, 134, 142, 159, 165, 262, 263, 268,
-];
+const COMMANDS: [u32; 21] =
+    [2, 20, 22, 23, 25, 26, 30, 52, 63, 64, 78, 85, 86, 110, 134, 142, 159, 165, 262, 263, 268];
 
 const BAD: Refused = Refused(1, 0);
 
@@ -95,7 +94,11 @@ fn run(
             needs(args.len() >= 4 && le32(args, 0) <= 2 && args[4..].contains(&0))?;
             needs(args.len() - 4 <= 2020)?;
             let interface = args[0];
-            ioctl(world, bus, &Request { set: true, command: 263, interface, payload: &args[4..] })?;
+            ioctl(
+                world,
+                bus,
+                &Request { set: true, command: 263, interface, payload: &args[4..] },
+            )?;
         }
         _ => {
             needs(args.is_empty())?;

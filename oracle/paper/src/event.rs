@@ -45,7 +45,12 @@ pub fn event(world: &mut World, offset: usize, len: usize) {
         16 if !up && matches!(state.state, CONNECTED | DISCONNECTING) => state.state = DOWN,
         5 | 6 | 11 | 12 => match state.state {
             CONNECTING => {
-                state.connect_failure.get_or_insert(Failure { kind: 5, event: 0, status: 0, reason });
+                state.connect_failure.get_or_insert(Failure {
+                    kind: 5,
+                    event: 0,
+                    status: 0,
+                    reason,
+                });
             }
             CONNECTED | DISCONNECTING => {
                 state.state = DOWN;

@@ -4,10 +4,12 @@
 
 pub mod bus;
 pub mod calls;
+pub mod compare;
 pub mod event;
 pub mod exchange;
 pub mod packet;
 pub mod world;
 
 pub use calls::call;
+pub use compare::compare;
 pub use world::{Ended, World};

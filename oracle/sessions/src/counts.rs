@@ -2,7 +2,7 @@
 
 use std::{collections::BTreeMap, fmt};
 
-use cyw43_oracle::{CallResult, call::NAMES, oracle::PANIC};
+use cyw43_oracle::{CallResult, Oracle, call::NAMES, oracle::PANIC};
 use tape::record_words;
 
 use crate::session::Step;
@@ -22,6 +22,9 @@ pub struct Counts {
     pub states: BTreeMap<u8, u64>,
     pub polled: BTreeMap<u64, u64>,
     pub longest_list: usize,
+    /// Wraps of sequence, credit and id.
+    pub wraps: [u64; 3],
+    last: [u8; 3],
     /// Waits by length; those of init's start-up count as one.
     pub waits: BTreeMap<&'static str, u64>,
 }
@@ -70,13 +73,25 @@ fn class(transfer: &[u8]) -> String {
 }
 
 impl Counts {
-    pub fn add(&mut self, step: &Step, result: &CallResult, state: u8, list: usize) {
+    /// A session begins, in a fresh state.
+    pub fn begin(&mut self) {
+        self.sessions += 1;
+        self.last = [0; 3];
+    }
+
+    pub fn add(&mut self, oracle: &Oracle, step: &Step, result: &CallResult) {
         *self.refusals.entry((step.played.call, result.refusal)).or_default() += 1;
-        *self.states.entry(state).or_default() += 1;
+        let state = oracle.state();
+        *self.states.entry(state.state).or_default() += 1;
+        let now = [state.packet_tx_seq, state.last_bus_data_credit, state.requested_ioctl_id];
+        for ((wraps, &now), &last) in self.wraps.iter_mut().zip(&now).zip(&self.last) {
+            *wraps += u64::from(now < last);
+        }
+        self.last = now;
         if step.played.call == 6 && result.refusal == 0 {
             *self.polled.entry(result.value).or_default() += 1;
         }
-        self.longest_list = self.longest_list.max(list);
+        self.longest_list = self.longest_list.max(oracle.records().len());
 
         let mut answers = &step.played.recording[..];
         let mut log = &result.log[..];
@@ -129,6 +144,7 @@ impl fmt::Display for Counts {
         }
         writeln!(f, "poll values {:?}", self.polled)?;
         writeln!(f, "states after a call {:?}", self.states)?;
+        writeln!(f, "wraps of sequence, credit, id {:?}", self.wraps)?;
         writeln!(f, "longest scan list {}", self.longest_list)?;
         writeln!(f, "operations by kind {:?}", self.wishes)?;
         writeln!(f, "waits {:?}", self.waits)?;

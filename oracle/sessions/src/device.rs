@@ -20,16 +20,8 @@ const REPLY: u64 = 500_000;
 const STARTUP: u64 = 150_000;
 
 /// Clocks at which init's start-up wait ends or begins.
-const STARTS: [u64; 8] = [
-    0,
-    1,
-    149_999,
-    150_000,
-    150_001,
-    (1 << 32) - 1,
-    (1 << 32) + 149_999,
-    (1 << 32) + 150_000,
-];
+const STARTS: [u64; 8] =
+    [0, 1, 149_999, 150_000, 150_001, (1 << 32) - 1, (1 << 32) + 149_999, (1 << 32) + 150_000];
 
 pub struct Device {
     pub rng: Rng,
@@ -63,7 +55,7 @@ impl Device {
         let clock = match rng.weighted(&[3, 1, 1]) {
             0 => rng.below(200_000),
             1 => (1 << 32) - rng.below(400_000),
-            _ => rng.next(),
+            _ => rng.draw(),
         };
         let tick = rng.pick(&[0, 5, 1_000, u64::MAX - 500, 0xffff_fe00]);
         Self {
@@ -205,7 +197,7 @@ impl Device {
             now = match self.rng.weighted(&[8, 1, 1]) {
                 0 => began.wrapping_add(limit).wrapping_add(self.rng.range(0, 2)).wrapping_sub(1),
                 1 => began.wrapping_sub(self.rng.range(1, 9)),
-                _ => self.rng.next(),
+                _ => self.rng.draw(),
             };
         }
         self.began.get_or_insert(now);

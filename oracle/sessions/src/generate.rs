@@ -15,8 +15,9 @@ use crate::{
     temper::{self, Temper},
 };
 
-/// Most calls of one session.
+/// Most calls of a session; a few are long, so that numbers of one byte wrap.
 const CALLS: u64 = 60;
+const LONG: u64 = 600;
 
 fn capacity(rng: &mut Rng, temper: &Temper) -> usize {
     if !rng.once_in(temper.logs) {
@@ -42,11 +43,12 @@ pub fn generate_on(
 ) -> Session {
     let mut rng = Rng::new(seed ^ 0x5ee5_10a5);
     let temper = temper::choose(&mut rng);
-    let device = Rc::new(RefCell::new(Device::new(Rng::new(rng.next()), temper)));
+    let device = Rc::new(RefCell::new(Device::new(Rng::new(rng.draw()), temper)));
     let mut session = Session::default();
     let mut last = Last::default();
 
-    for _ in 0..rng.range(1, CALLS) {
+    let most = if rng.once_in(50) { LONG } else { CALLS };
+    for _ in 0..rng.range(1, most) {
         let state = oracle.state();
         let again = last.refusal == 8 && rng.percent(40);
         let (call, args) = match session.steps.last() {

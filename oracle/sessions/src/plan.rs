@@ -22,7 +22,7 @@ pub fn next_call(rng: &mut Rng, last: Last, first: bool) -> u32 {
     if last.call == 6 && last.value == 1 && last.refusal == 0 && rng.percent(70) {
         return 8;
     }
-    if matches!(last.call, 2 | 3 | 4 | 5) && rng.percent(70) {
+    if matches!(last.call, 2..=5) && rng.percent(70) {
         return 6;
     }
     rng.weighted(&WEIGHTS) as u32 + 1
@@ -57,9 +57,7 @@ fn good(rng: &mut Rng, call: u32, state: &State) -> Vec<u8> {
             let n = match rng.weighted(&[5, 2, 2]) {
                 0 => rng.range(14, 200) as usize,
                 1 => rng.pick(&[0, 1, 2, 3, 13, 14, 60, 1500, 1514]),
-                _ => rng.pick(&[
-                    2018, 2019, 2021, 2022, 2023, 2024, 2029, 2030, 2031, 2032, 2044,
-                ]),
+                _ => rng.pick(&[2018, 2019, 2021, 2022, 2023, 2024, 2029, 2030, 2031, 2032, 2044]),
             };
             args.extend(rng.bytes(n));
             args

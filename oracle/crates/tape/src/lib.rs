@@ -7,5 +7,7 @@ mod wish;
 
 pub use answer::{Fault, Given, record_words};
 pub use play::{Source, Stop, Tape, before_first_wish, line, load, take};
-pub use play::{clock, frame_control, interrupt, interrupt_write, packet, status, tick, wait, write};
+pub use play::{
+    clock, frame_control, interrupt, interrupt_write, packet, status, tick, wait, write,
+};
 pub use wish::Wish;

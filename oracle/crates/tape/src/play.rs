@@ -105,8 +105,7 @@ impl Tape {
 
 #[inline(never)]
 fn ask(wish: Wish) -> Result<Given, Fault> {
-    let played =
-        PLAYING.with_borrow_mut(|p| p.as_mut().expect("no tape is in").play(&wish));
+    let played = PLAYING.with_borrow_mut(|p| p.as_mut().expect("no tape is in").play(&wish));
     // The payload passes the driver by unwinding; no panic message is made.
     played.unwrap_or_else(|stop| panic::resume_unwind(Box::new(stop)))
 }

@@ -1,6 +1,7 @@
 //! oracle-sessions --seed S --count N [--write FOLDER] [--lines]: makes N sessions, runs
 //! them on the oracle twice (answers made as asked for, then played from the recording)
-//! and prints what they reached.
+//! and prints what they reached. FOLDER gets two files for each seed: the session with its
+//! log capacities, and the player's input.
 
 use std::{collections::BTreeMap, fs, path::PathBuf, process::exit};
 
@@ -52,17 +53,17 @@ fn main() {
     let mut panics = BTreeMap::<String, (u64, u64, Session)>::new();
 
     for seed in options.seed..options.seed + options.count {
+        counts.begin();
         let mut results = Vec::new();
         let mut oracle = Oracle::new();
         if options.lines {
             oracle.count_lines();
         }
         let mut after = |oracle: &Oracle, step: &Step, result: &CallResult| {
-            counts.add(step, result, oracle.state().state, oracle.records().len());
+            counts.add(oracle, step, result);
             results.push(result.clone());
         };
         let session = generate::generate_on(&mut oracle, seed, &mut after);
-        counts.sessions += 1;
         for (line, n) in oracle.lines().into_iter().flatten() {
             *lines.entry(line).or_default() += n;
         }
@@ -78,6 +79,7 @@ fn main() {
         if let Some(folder) = &options.write {
             fs::create_dir_all(folder).expect("folder");
             fs::write(folder.join(format!("{seed}.session")), session.file()).expect("file");
+            fs::write(folder.join(format!("{seed}.input")), session.input()).expect("file");
         }
     }
 

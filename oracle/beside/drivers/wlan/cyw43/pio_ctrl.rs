@@ -42,12 +42,8 @@ const AUTHS: [WifiAuth; 6] = [
     WifiAuth::Wpa3Wpa2AesPsk,
 ];
 
-const STATES: [WifiState; 4] = [
-    WifiState::Down,
-    WifiState::Connecting,
-    WifiState::Connected,
-    WifiState::Disconnecting,
-];
+const STATES: [WifiState; 4] =
+    [WifiState::Down, WifiState::Connecting, WifiState::Connected, WifiState::Disconnecting];
 
 const COMMANDS: [WlcCmd; 21] = [
     WlcCmd::Up,
@@ -146,9 +142,9 @@ impl Driver {
                 zero_scan_padding(d.spid_buf.as_mut_ptr());
                 d.wifi_scan().map(done)
             }
-            Call::Join { auth, ssid, passphrase } => d
-                .wifi_connect(text(ssid), text(passphrase), AUTHS[auth as usize])
-                .map(done),
+            Call::Join { auth, ssid, passphrase } => {
+                d.wifi_connect(text(ssid), text(passphrase), AUTHS[auth as usize]).map(done)
+            }
             Call::Leave => d.wifi_disconnect().map(done),
             Call::Abort => d.wifi_abort_connect().map(done),
             Call::Poll => d.poll().map(|polled| match polled {
@@ -159,9 +155,9 @@ impl Driver {
             Call::Send { interface, frame } => {
                 d.send_data(frame, Interface::from_u8(interface)).map(done)
             }
-            Call::Take { length } => d
-                .get_rx_buf(&mut out[..length])
-                .map(|length| (length as u64, None)),
+            Call::Take { length } => {
+                d.get_rx_buf(&mut out[..length]).map(|length| (length as u64, None))
+            }
             Call::Gpio { pin, level } => d.gpio_set(pin as usize, level).map(done),
             Call::Mac => d.get_mac_addr().map(|mac| {
                 let value = mac.iter().fold(0, |v, &b| v << 8 | u64::from(b));
@@ -170,12 +166,12 @@ impl Driver {
             Call::Get { command: c, interface } => d
                 .get_ioctl_u32(command(c).unwrap(), Interface::from_u8(interface))
                 .map(|value| (value.into(), None)),
-            Call::Set { command: c, value, interface } => d
-                .set_ioctl_u32(command(c).unwrap(), value, Interface::from_u8(interface))
-                .map(done),
-            Call::Variable { interface, name, data } => d
-                .write_iovar_n(text(name), data, Interface::from_u8(interface))
-                .map(done),
+            Call::Set { command: c, value, interface } => {
+                d.set_ioctl_u32(command(c).unwrap(), value, Interface::from_u8(interface)).map(done)
+            }
+            Call::Variable { interface, name, data } => {
+                d.write_iovar_n(text(name), data, Interface::from_u8(interface)).map(done)
+            }
             Call::Up => d.wlc_up().map(done),
         }
     }
@@ -186,11 +182,9 @@ impl Driver {
             SdpcmPacket::None => Packet::None,
             SdpcmPacket::Control { offset, len, status } => Packet::Control { offset, len, status },
             SdpcmPacket::AsyncEvent { offset, len } => Packet::Event { offset, len },
-            SdpcmPacket::Data { offset, len, interface } => Packet::Data {
-                offset,
-                len,
-                interface: interface as u8,
-            },
+            SdpcmPacket::Data { offset, len, interface } => {
+                Packet::Data { offset, len, interface: interface as u8 }
+            }
             SdpcmPacket::Unexpected(_) => unreachable!("never built"),
         })
     }

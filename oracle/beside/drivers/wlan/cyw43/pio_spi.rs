@@ -72,9 +72,7 @@ impl PioSpi {
         _dio: usize,
         _cs: usize,
     ) -> Self {
-        Self {
-            announced: Cell::new(None),
-        }
+        Self { announced: Cell::new(None) }
     }
 
     pub(super) fn gpio_setup(&self) {}
