@@ -102,24 +102,15 @@ fn whole_records() {
     }
 }
 
-/// The scan's padding is zero in the packet and in the buffer, whatever the stack held.
+/// The scan's padding is zero in the packet and in the buffer. (Rust 1.95 leaves zeros there
+/// without the harness's help too, so this does not show that the help works.)
 #[test]
 fn scan_padding_is_zero() {
-    #[inline(never)]
-    fn soil(depth: u32) -> u8 {
-        let bytes = std::hint::black_box([0xa5u8; 4096]);
-        if depth == 0 { bytes[7] } else { soil(depth - 1) ^ bytes[9] }
-    }
-    for depth in 0..8 {
-        std::hint::black_box(soil(depth));
-        let mut oracle = Oracle::new();
-        let result = call(&mut oracle, 2, &[], &exchange(false, 2, 1));
-        assert_eq!(result.refusal, 0);
-        let packet = &result.log[2..2 + 28];
-        assert_eq!(result.log[1], 0x6000_0070);
-        assert_eq!(packet[27] & 0xffff, 0);
-        assert_eq!(oracle.buffer()[108..110], [0, 0]);
-    }
+    let mut oracle = Oracle::new();
+    let result = call(&mut oracle, 2, &[], &exchange(false, 2, 1));
+    assert_eq!((result.refusal, result.log[1]), (0, 0x6000_0070));
+    assert_eq!(result.log[2 + 27] & 0xffff, 0);
+    assert_eq!(oracle.buffer()[108..110], [0, 0]);
 }
 
 #[test]
