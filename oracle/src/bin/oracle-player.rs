@@ -1,0 +1,24 @@
+//! oracle-player [--full | --hash] [--session]: plays standard input on the Rust driver.
+
+use std::io::{Read, Write, stdin, stdout};
+
+use cyw43_oracle::player::{Print, play};
+
+fn main() {
+    let mut print = Print::Plain;
+    let mut session = false;
+    for arg in std::env::args().skip(1) {
+        match arg.as_str() {
+            "--full" => print = Print::Full,
+            "--hash" => print = Print::Hashed,
+            "--session" => session = true,
+            _ => {
+                eprintln!("usage: oracle-player [--full | --hash] [--session] < input");
+                std::process::exit(2);
+            }
+        }
+    }
+    let mut input = Vec::new();
+    stdin().read_to_end(&mut input).expect("standard input");
+    stdout().write_all(play(&input, print, session).as_bytes()).expect("standard output");
+}

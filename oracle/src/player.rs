@@ -1,0 +1,194 @@
+//! The player of document 01: calls in, lines out.
+
+use std::fmt::Write;
+
+use crate::{
+    call::take_length,
+    oracle::{CallResult, Oracle, PANIC},
+    state::Failure,
+};
+
+pub const LOG: usize = 8192;
+const ARGUMENTS: usize = 2048;
+const RECORDING: usize = 4096;
+const OUTPUT: u32 = 2048;
+
+/// One call of the player's input.
+#[derive(Clone, Debug, PartialEq, Eq)]
+pub struct Played {
+    pub call: u32,
+    pub args: Vec<u8>,
+    pub recording: Vec<u32>,
+}
+
+impl Played {
+    /// The call as the player's input words.
+    pub fn words(&self) -> Vec<u32> {
+        let mut words = vec![0xf000_0000 + self.call, self.args.len() as u32];
+        for part in self.args.chunks(4) {
+            let mut word = [0; 4];
+            word[..part.len()].copy_from_slice(part);
+            words.push(u32::from_le_bytes(word));
+        }
+        words.push(self.recording.len() as u32);
+        words.extend(&self.recording);
+        words
+    }
+
+    /// How long an output the call needs.
+    pub fn output(&self) -> usize {
+        match self.call {
+            8 => take_length(&self.args).unwrap_or(0) as usize,
+            _ => 0,
+        }
+    }
+}
+
+/// Reads the player's input from its front.
+pub struct Input<'a>(pub &'a [u8]);
+
+impl Input<'_> {
+    pub fn is_empty(&self) -> bool {
+        self.0.is_empty()
+    }
+
+    pub fn word(&mut self) -> Option<u32> {
+        let (word, rest) = self.0.split_first_chunk::<4>()?;
+        self.0 = rest;
+        Some(u32::from_le_bytes(*word))
+    }
+
+    fn count(&mut self, limit: usize) -> Option<usize> {
+        self.word().map(|n| n as usize).filter(|&n| n <= limit)
+    }
+
+    /// None where the player says `bad`.
+    pub fn call(&mut self) -> Option<Played> {
+        let call = self.word()?.checked_sub(0xf000_0000)?;
+        if !(1..=14).contains(&call) {
+            return None;
+        }
+        let length = self.count(ARGUMENTS)?;
+        let (args, rest) = self.0.split_at_checked(length.next_multiple_of(4))?;
+        self.0 = rest;
+        let words = self.count(RECORDING)?;
+        let recording = (0..words).map(|_| self.word()).collect::<Option<Vec<_>>>()?;
+        let args = args[..length].to_vec();
+        if call == 8 && take_length(&args).is_some_and(|n| n > OUTPUT) {
+            return None;
+        }
+        Some(Played { call, args, recording })
+    }
+}
+
+/// How much to print after each call.
+#[derive(Clone, Copy, Debug, PartialEq, Eq)]
+pub enum Print {
+    /// What document 01 says.
+    Plain,
+    /// State, scan list, output and the buffer's bytes too.
+    Full,
+    /// The same with the buffer's FNV-1a hash.
+    Hashed,
+}
+
+/// What the player prints for one call.
+pub fn lines(call: u32, result: &CallResult, oracle: &Oracle) -> String {
+    let s = oracle.state();
+    let refusal = match result.refusal {
+        PANIC => "panic".to_string(),
+        n => n.to_string(),
+    };
+    let mut text = format!(
+        "{call} {refusal} {} {} {} {} {} {} {}\n",
+        result.value,
+        s.state,
+        s.packet_tx_seq,
+        s.last_bus_data_credit,
+        s.wlan_flow_control,
+        s.requested_ioctl_id,
+        result.log.len()
+    );
+    for word in &result.log {
+        writeln!(text, "{word:08x}").unwrap();
+    }
+    text
+}
+
+fn hex(bytes: &[u8]) -> String {
+    bytes.iter().fold(String::new(), |mut text, b| {
+        write!(text, "{b:02x}").unwrap();
+        text
+    })
+}
+
+pub fn fnv(bytes: &[u8]) -> u64 {
+    bytes
+        .iter()
+        .fold(0xcbf2_9ce4_8422_2325, |h, &b| (h ^ u64::from(b)).wrapping_mul(0x0100_0000_01b3))
+}
+
+fn failure(f: Option<Failure>) -> String {
+    f.map_or("none".into(), |f| format!("{},{},{},{}", f.kind, f.event, f.status, f.reason))
+}
+
+/// The further lines of `--full`.
+pub fn full_lines(result: &CallResult, oracle: &Oracle, out: &[u8], print: Print) -> String {
+    let s = oracle.state();
+    let mut text = format!(
+        "state mark={} reply={} frame={} scan_done={} scan_in_progress={} failure={} auth={} tick={}\n",
+        u8::from(s.had_successful_packet),
+        s.pending_ioctl_resp
+            .map_or("none".into(), |r| format!("{},{},{}", r.offset, r.len, r.status)),
+        s.pending_rx.map_or("none".into(), |b| format!("{},{}", b.offset, b.len)),
+        u8::from(s.scan_done),
+        u8::from(s.scan_in_progress),
+        failure(s.connect_failure),
+        s.current_auth,
+        s.disconnect_started_tick.map_or("none".into(), |t| t.to_string()),
+    );
+    writeln!(text, "polled failure={}", failure(result.failure)).unwrap();
+    for (i, r) in oracle.records().iter().enumerate() {
+        let (ssid, bssid) = (hex(&r.ssid), hex(&r.bssid));
+        writeln!(text, "record {i} {ssid} {} {bssid} {} {}", r.ssid_len, r.channel, r.rssi)
+            .unwrap();
+    }
+    match print {
+        Print::Hashed => writeln!(text, "buffer fnv {:016x}", fnv(oracle.buffer())),
+        _ => writeln!(text, "buffer {}", hex(oracle.buffer())),
+    }
+    .unwrap();
+    writeln!(text, "output {}", hex(out)).unwrap();
+    if let Some(message) = &result.panic {
+        writeln!(text, "panic {message}").unwrap();
+    }
+    text
+}
+
+/// All that the player prints for an input. With `capacities`, one word 0xE0000000 + log
+/// capacity stands before each call, as in a session file.
+pub fn play(input: &[u8], print: Print, capacities: bool) -> String {
+    let mut oracle = Oracle::new();
+    let mut input = Input(input);
+    let mut text = String::new();
+    while !input.is_empty() {
+        let capacity = match capacities {
+            true => input.word().and_then(|w| w.checked_sub(0xe000_0000)).map(|n| n as usize),
+            false => Some(LOG),
+        };
+        let Some((capacity, played)) = capacity.zip(input.call()) else {
+            text += "bad\n";
+            break;
+        };
+        let mut out = vec![0; played.output()];
+        let result = oracle.call(played.call, &played.args, &played.recording, capacity, &mut out);
+        text += &lines(played.call, &result, &oracle);
+        if print != Print::Plain {
+            text += &full_lines(&result, &oracle, &out, print);
+        }
+        if result.panic.is_some() {
+            break;
+        }
+    }
+    text
+}
