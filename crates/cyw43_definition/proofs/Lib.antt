@@ -3,3 +3,4 @@ pub mod Keeps
 pub mod Buffer
 pub mod Log
 pub mod Refusals
+pub mod Compose
