@@ -2,13 +2,17 @@
 use Prim.Native.Nat.{ℕ, _+_, _*_, _-_, _/_, _%_, _≤_, _<_}
 use mathlib.Core.Path.{_≡_, _∙_}
 use mathlib.Core.Bool.{Bool, true, false, _&&_}
+use mathlib.Core.List.{List, [], _∷_, _++_}
 use native.Mathlib.Omega.{arith}
 use lib.Dec.{leb, eqb}
 use lib.ListN.{take, getD}
 use lib.IntN.{ℤ}
 use lib.Seq.{getD-take}
 use borrow.Author.Tests.{lt-ltb, le-ltb, le-leb, lt-leb, eq-eqb, ne-eqb}
-use Rattle.slices.specs.Le.{le32At, signed32}
+use Rattle.slices.specs.Pick.{pick}
+use Rattle.slices.specs.Over.{over}
+use Rattle.slices.specs.Le.{le16, le32At, signed32}
+use Rattle.slices.proofs.Over.{over-append}
 use Rattle.cyw43_types.specs.State.{setCredit, setFlow}
 use Rattle.cyw43_types.specs.declared.sdpcm.Sdpcm.{Sdpcm}
 use Rattle.cyw43_types.specs.declared.sdpcm.Interface.{Interface}
@@ -16,17 +20,18 @@ use Rattle.cyw43_types.specs.declared.sdpcm.SdpcmPacket.{SdpcmPacket}
 use Rattle.cyw43_types.specs.declared.sdpcm.Received.{Received}
 use Rattle.cyw43_types.specs.declared.sdpcm.RxPacket.{RxPacket}
 use Rattle.cyw43_definition.specs.Bus.{Bytes}
-use Rattle.cyw43_definition.specs.Packet.{sizeIn, complementIn, channelIn, headerLengthIn, flowIn, creditIn, creditStep, isPacket, credits, accepted, controlOf, interfaceOf, dataOf, payloadOf, processRx}
+use Rattle.cyw43_definition.specs.Packet.{sizeIn, complementIn, channelIn, headerLengthIn, flowIn, creditIn, creditStep, isPacket, credits, accepted, controlOf, interfaceOf, dataOf, payloadOf, processRx, header, dataPart}
 
 module _ (b : Bytes) (size h id : ℕ) where
   -- the four bytes at h + i lie within the size
   within : (i : ℕ) → h + i + 4 ≤ size → le32At (take size b) (h + i) ≡ le32At b (h + i)
   within i p =
-      simp
-      (getD-take size b (h + i) 0 (omega arith)
-      , getD-take size b (h + i + 1) 0 (omega arith)
-      , getD-take size b (h + i + 2) 0 (omega arith)
-      , getD-take size b (h + i + 3) 0 (omega arith))
+      simp (
+        getD-take size b (h + i) 0 (omega arith),
+        getD-take size b (h + i + 1) 0 (omega arith),
+        getD-take size b (h + i + 2) 0 (omega arith),
+        getD-take size b (h + i + 3) 0 (omega arith),
+      )
 
   pub control-short : size < h + 16 → SdpcmPacket.None ≡ controlOf (take size b) size h id
   unfolding controlOf
@@ -56,15 +61,16 @@ module _ (b : Bytes) (size h : ℕ) where
   pub data-is : (o n : ℕ) (i : Interface) → 16 < size → h + 4 ≤ size → o ≡ h + 4 + 4 * getD b (h + 3) 0 → o ≤ size → n ≡ getD b (h + 2) 0 → i ≡ interfaceOf n → SdpcmPacket.Data o (size - o) i ≡ dataOf (take size b) size h
   unfolding dataOf
   data-is o n i p q e r g f =
-      simp
-      (lt-leb _ _ p
-      , le-ltb _ _ q
-      , getD-take size b (h + 3) 0 (omega arith)
-      , getD-take size b (h + 2) 0 (omega arith)
-      , ← e
-      , le-ltb _ _ r
-      , f
-      , g)
+      simp (
+        lt-leb _ _ p,
+        le-ltb _ _ q,
+        getD-take size b (h + 3) 0 (omega arith),
+        getD-take size b (h + 2) 0 (omega arith),
+        ← e,
+        le-ltb _ _ r,
+        f,
+        g,
+      )
 
 module _ (b : Bytes) where
   pub packet-not : (sizeIn b + complementIn b ≡ 65535 → ⊥) → false ≡ isPacket b
@@ -96,3 +102,13 @@ module _ (came : ℕ) (b : Bytes) (s : Sdpcm) where
   pub process-is : (size channel h : ℕ) (next : Sdpcm) (r : Received) → isPacket b ≡ true → next ≡ accepted b s → size ≡ sizeIn b → channel ≡ channelIn b → h ≡ headerLengthIn b → r ≡ payloadOf (take size b) size channel h (s .«requested_ioctl_id») → record { sdpcm = next; received = r } ≡ processRx came b s
   unfolding processRx
   process-is size channel h next r p d e f g q = simp (p, d, q, e, f, g)
+
+-- sent packets: runs laid one after the other
+pub header-is : (d e f g : Bytes) (size seq channel h : ℕ) → h ≡ pick (eqb channel 2) 14 12 → e ≡ over d 0 (le16 size) → f ≡ over e 2 (le16 (65535 - size)) → g ≡ over f 4 (seq ∷ channel ∷ 0 ∷ h ∷ 0 ∷ 0 ∷ 0 ∷ 0 ∷ []) → g ≡ over d 0 (header size seq channel)
+unfolding header
+header-is d e f g size seq channel h p q r s =
+    s ∙ rw (r, q, p, over-append d 0 (le16 size), over-append d 0 (le16 size ++ le16 (65535 - size)))
+
+pub data-part-is : (d e f : Bytes) (interface : ℕ) (frame : Bytes) → e ≡ over d 12 (0 ∷ 0 ∷ 32 ∷ 0 ∷ interface ∷ 0 ∷ []) → f ≡ over e 18 frame → f ≡ over d 12 (dataPart interface frame)
+unfolding dataPart
+data-part-is d e f interface frame p q = q ∙ rw (p, over-append d 12 (0 ∷ 0 ∷ 32 ∷ 0 ∷ interface ∷ 0 ∷ []))
