@@ -1,7 +1,7 @@
 -- Laws of the event reader's copies, of the searches in the scan list, and of definitions case by case.
 use Prim.Native.Nat.{ℕ, zero, suc, _+_, _-_, _≤_, _<_, min}
 use mathlib.Core.Path.{_≡_, refl, sym, ap, _∙_}
-use mathlib.Core.Bool.{Bool, true, false}
+use mathlib.Core.Bool.{true, false}
 use mathlib.Core.List.{List, [], _∷_, _++_}
 use native.Mathlib.Nat.{le-of-suc-le-suc, not-suc-le-zero}
 use native.Mathlib.Numerals.{add-one}
@@ -14,7 +14,6 @@ use Rattle.slices.specs.Over.{over}
 use Rattle.slices.specs.Le.{be16At, be32At, le16At, signed16}
 use Rattle.slices.proofs.Over.{over-nil, drop-take, length-part}
 use Rattle.cyw43_types.specs.declared.scan.ScanRecord.{ScanRecord}
-use Rattle.cyw43_types.specs.declared.sdpcm.AsyncEvent.{AsyncEvent}
 use Rattle.cyw43_definition.specs.Bus.{Bytes}
 use Rattle.cyw43_definition.specs.Event.{eventBytes, scanResult, eventOf}
 use Rattle.cyw43_definition.specs.Scan.{sameBytes, sameNetwork, known}

@@ -1,8 +1,8 @@
 -- The definitions of `Packet`, case by case: what each `return` cites.
-use Prim.Native.Nat.{ℕ, _+_, _*_, _-_, _/_, _%_, _≤_, _<_}
+use Prim.Native.Nat.{ℕ, _+_, _*_, _-_, _/_, _≤_, _<_}
 use mathlib.Core.Path.{_≡_, _∙_}
-use mathlib.Core.Bool.{Bool, true, false, _&&_}
-use mathlib.Core.List.{List, [], _∷_, _++_}
+use mathlib.Core.Bool.{true, false}
+use mathlib.Core.List.{[], _∷_, _++_}
 use native.Mathlib.Omega.{arith}
 use lib.Dec.{leb, eqb}
 use lib.ListN.{take, getD}
@@ -18,7 +18,6 @@ use Rattle.cyw43_types.specs.declared.sdpcm.Sdpcm.{Sdpcm}
 use Rattle.cyw43_types.specs.declared.sdpcm.Interface.{Interface}
 use Rattle.cyw43_types.specs.declared.sdpcm.SdpcmPacket.{SdpcmPacket}
 use Rattle.cyw43_types.specs.declared.sdpcm.Received.{Received}
-use Rattle.cyw43_types.specs.declared.sdpcm.RxPacket.{RxPacket}
 use Rattle.cyw43_definition.specs.Bus.{Bytes}
 use Rattle.cyw43_definition.specs.Packet.{sizeIn, complementIn, channelIn, headerLengthIn, flowIn, creditIn, creditStep, isPacket, credits, accepted, controlOf, interfaceOf, dataOf, payloadOf, processRx, header, dataPart}
 

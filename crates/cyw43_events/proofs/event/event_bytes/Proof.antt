@@ -1,40 +1,27 @@
--- <<
+use borrow.Author.Needs.{needs}
 use mathlib.Core.Path.{_∙_}
 use Rattle.cyw43_events.proofs.Laws.{event-short, event-is}
--- >>
-use borrow.Author.Needs.{needs}
 use Rattle.cyw43_events.proofs.event.event_bytes.Statement.{statement}
 use Rattle.cyw43_events.proofs.event.event_bytes.Tie as tie
-use Rattle.cyw43_events.proofs.event.event_bytes.Reads as reads
-use Rattle.cyw43_events.proofs.event.event_bytes.Lts as lts
-use Rattle.cyw43_events.proofs.event.smaller.Reads as smaller-reads
-use Rattle.slices.proofs.copy_over.Reads as copy-over-reads
 
--- src/event.rt:21:9
 smaller-requires : tie.Need-smaller-requires
 smaller-requires c κs = search needs
 
--- src/event.rt:23:27
 slice-aggregate-copy-over : tie.Need-slice-aggregate-copy-over
 slice-aggregate-copy-over c = search needs
 
--- src/event.rt:23:38
 part-copy-over-start : tie.Need-part-copy-over-start
 part-copy-over-start c = search needs
 
--- src/event.rt:23:38
 part-copy-over-end : tie.Need-part-copy-over-end
 part-copy-over-end c = search needs
 
--- src/event.rt:23:9
 copy-over-requires : tie.Need-copy-over-requires
 copy-over-requires c κs = search needs
 
--- src/event.rt:17:1
 returns : tie.Need-returns
 returns c = c .before .copy-over .ensures ∙ event-is (c .before .before .before .before .before .before .before .args .part .now) (c .before .before .before .before .before .before .before .args .len) (c .before .before .before .before .before .smaller .result) (search needs) (search needs)
 
--- src/event.rt:17:1
 returns-2 : tie.Need-returns-2
 returns-2 c = event-short (c .before .before .before .args .part .now) (c .before .before .before .args .len) (c .before .smaller .result) (search needs) (search needs)
 

@@ -1,41 +1,29 @@
--- <<
+use borrow.Author.Needs.{needs}
 use Prim.Native.Nat.{_+_, _-_}
 use mathlib.Core.Path.{_∙_}
 use native.Mathlib.Omega.{arith}
 use Rattle.cyw43_events.proofs.Laws.{ssid-is}
--- >>
-use borrow.Author.Needs.{needs}
 use Rattle.cyw43_events.proofs.event.ssid_in.Statement.{statement}
 use Rattle.cyw43_events.proofs.event.ssid_in.Tie as tie
-use Rattle.cyw43_events.proofs.event.ssid_in.Reads as reads
-use Rattle.cyw43_events.proofs.event.ssid_in.Lts as lts
-use Rattle.slices.proofs.copy_over.Reads as copy-over-reads
 
--- src/event.rt:34:15
 add-end : tie.Need-add-end
 add-end c = search needs
 
--- src/event.rt:35:23
 slice-aggregate-copy-over : tie.Need-slice-aggregate-copy-over
 slice-aggregate-copy-over c = search needs
 
--- src/event.rt:35:34
 sub-copy-over : tie.Need-sub-copy-over
 sub-copy-over c = search needs
 
--- src/event.rt:35:34
 part-copy-over-start : tie.Need-part-copy-over-start
 part-copy-over-start c = search needs
 
--- src/event.rt:35:34
 part-copy-over-end : tie.Need-part-copy-over-end
 part-copy-over-end c = search needs
 
--- src/event.rt:35:5
 copy-over-requires : tie.Need-copy-over-requires
 copy-over-requires c κs = search needs
 
--- src/event.rt:29:1
 returns : tie.Need-returns
 returns c = c .before .copy-over .ensures ∙ ssid-is (c .before .before .before .before .before .args .t1) (c .before .before .before .before .before .args .n) (79 + c .before .before .before .before .before .args .n - 79) (omega arith) (c .before .before .before .before .before .pre) (omega arith)
 

@@ -1,25 +1,16 @@
--- <<
-use borrow.Author.Needs.{needs}
 use borrow.Author.Tests.{ne-eqb}
--- >>
 use Rattle.cyw43_events.proofs.link.is_deauthentication.Statement.{statement}
 use Rattle.cyw43_events.proofs.link.is_deauthentication.Tie as tie
-use Rattle.cyw43_events.proofs.link.is_deauthentication.Reads as reads
-use Rattle.cyw43_events.proofs.link.is_deauthentication.Lts as lts
 
--- src/link.rt:137:9
 returns : tie.Need-returns
 returns c = simp (c .if1 .taken)
 
--- src/link.rt:140:9
 returns-2 : tie.Need-returns-2
 returns-2 c = simp (c .if2 .taken)
 
--- src/link.rt:143:9
 returns-3 : tie.Need-returns-3
 returns-3 c = simp (c .if3 .taken)
 
--- src/link.rt:133:1
 returns-4 : tie.Need-returns-4
 returns-4 c = rw (ne-eqb _ 5 (c .before .before .if1 .left), ne-eqb _ 6 (c .before .if2 .left), ne-eqb _ 11 (c .if3 .left))
 

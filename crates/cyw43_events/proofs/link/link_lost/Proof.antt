@@ -1,53 +1,38 @@
--- <<
-use Rattle.cyw43_definition.specs.Event.{linkLost}
--- >>
 use borrow.Author.Needs.{needs}
+use Rattle.cyw43_definition.specs.Event.{linkLost}
 use Rattle.cyw43_events.proofs.link.link_lost.Statement.{statement}
 use Rattle.cyw43_events.proofs.link.link_lost.Tie as tie
-use Rattle.cyw43_events.proofs.link.link_lost.Reads as reads
-use Rattle.cyw43_events.proofs.link.link_lost.Lts as lts
-use Rattle.cyw43_types.proofs.state.set_link_state.Reads as set-link-state-reads
 
--- src/link.rt:41:28
 enum-told : tie.Need-enum-told
 enum-told c = search needs
 
--- src/link.rt:42:34
 enum-told-2 : tie.Need-enum-told-2
 enum-told-2 c = search needs
 
--- src/link.rt:43:51
 enum-told-3 : tie.Need-enum-told-3
 enum-told-3 c = search needs
 
--- src/link.rt:43:33
 set-link-state-requires : tie.Need-set-link-state-requires
 set-link-state-requires c κs = search needs
 
--- src/link.rt:44:55
 enum-told-4 : tie.Need-enum-told-4
 enum-told-4 c = search needs
 
--- src/link.rt:44:37
 set-link-state-requires-2 : tie.Need-set-link-state-requires-2
 set-link-state-requires-2 c κs = search needs
 
--- src/link.rt:37:1
 returns : tie.Need-returns
 unfolding linkLost
 returns c = simp (c .enum-told .given .1)
 
--- src/link.rt:37:1
 returns-2 : tie.Need-returns-2
 unfolding linkLost
 returns-2 c = simp (c .enum-told2 .given .1)
 
--- src/link.rt:37:1
 returns-3 : tie.Need-returns-3
 unfolding linkLost
 returns-3 c = simp (c .before .enum-told3 .given .1) (c .set-link-state .ensures)
 
--- src/link.rt:37:1
 returns-4 : tie.Need-returns-4
 unfolding linkLost
 returns-4 c = simp (c .before .enum-told4 .given .1) (c .set-link-state2 .ensures)

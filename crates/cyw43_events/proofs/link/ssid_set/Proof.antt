@@ -1,67 +1,49 @@
--- <<
-use Rattle.cyw43_definition.specs.Event.{ssidSet}
--- >>
 use borrow.Author.Needs.{needs}
+use Rattle.cyw43_definition.specs.Event.{ssidSet}
 use Rattle.cyw43_events.proofs.link.ssid_set.Statement.{statement}
 use Rattle.cyw43_events.proofs.link.ssid_set.Tie as tie
-use Rattle.cyw43_events.proofs.link.ssid_set.Reads as reads
-use Rattle.cyw43_events.proofs.link.ssid_set.Lts as lts
-use Rattle.cyw43_types.proofs.state.set_link_state.Reads as set-link-state-reads
 
--- src/link.rt:79:45
 enum-told : tie.Need-enum-told
 enum-told c = search needs
 
--- src/link.rt:79:27
 set-link-state-requires : tie.Need-set-link-state-requires
 set-link-state-requires c κs = search needs
 
--- src/link.rt:80:33
 enum-told-2 : tie.Need-enum-told-2
 enum-told-2 c = search needs
 
--- src/link.rt:81:33
 enum-told-3 : tie.Need-enum-told-3
 enum-told-3 c = search needs
 
--- src/link.rt:82:35
 enum-told-4 : tie.Need-enum-told-4
 enum-told-4 c = search needs
 
--- src/link.rt:83:36
 enum-told-5 : tie.Need-enum-told-5
 enum-told-5 c = search needs
 
--- src/link.rt:84:37
 enum-told-6 : tie.Need-enum-told-6
 enum-told-6 c = search needs
 
--- src/link.rt:75:1
 returns : tie.Need-returns
 unfolding ssidSet
 returns c = simp (c .before .enum-told .given .1) (c .set-link-state .ensures)
 
--- src/link.rt:75:1
 returns-2 : tie.Need-returns-2
 unfolding ssidSet
 returns-2 c = simp (c .enum-told2 .given .1)
 
--- src/link.rt:75:1
 returns-3 : tie.Need-returns-3
 unfolding ssidSet
 returns-3 c = simp (c .enum-told3 .given .1)
 
--- src/link.rt:75:1
 returns-4 : tie.Need-returns-4
 unfolding ssidSet
 returns-4 c = simp (c .enum-told4 .given .1)
 
--- src/link.rt:75:1
 returns-5 : tie.Need-returns-5
 unfolding ssidSet
 returns-5 c = simp (c .enum-told5 .given .1)
 
--- src/link.rt:75:1
 returns-6 : tie.Need-returns-6
 unfolding ssidSet
 returns-6 c = simp (c .enum-told6 .given .1)

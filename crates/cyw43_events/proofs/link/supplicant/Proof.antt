@@ -1,49 +1,34 @@
--- <<
+use borrow.Author.Needs.{needs}
 use mathlib.Core.Path.{_∙_}
 use borrow.Author.Tests.{eq-eqb, ne-eqb}
 use Rattle.cyw43_definition.specs.Event.{supplicant}
--- >>
-use borrow.Author.Needs.{needs}
 use Rattle.cyw43_events.proofs.link.supplicant.Statement.{statement}
 use Rattle.cyw43_events.proofs.link.supplicant.Tie as tie
-use Rattle.cyw43_events.proofs.link.supplicant.Reads as reads
-use Rattle.cyw43_events.proofs.link.supplicant.Lts as lts
-use Rattle.cyw43_events.proofs.link.failing.Reads as failing-reads
-use Rattle.cyw43_types.proofs.state.set_failure.Reads as set-failure-reads
-use Rattle.cyw43_types.proofs.state.set_link_state.Reads as set-link-state-reads
 
--- src/link.rt:93:31
 set-failure-requires : tie.Need-set-failure-requires
 set-failure-requires c κs = search needs
 
--- src/link.rt:93:9
 set-link-state-requires : tie.Need-set-link-state-requires
 set-link-state-requires c κs = search needs
 
--- src/link.rt:93:9
 returns : tie.Need-returns
 unfolding supplicant
 returns c = simp (eq-eqb _ _ (c .before .before .if1 .taken)) (c .set-link-state .ensures ∙ rw (c .before .set-failure .ensures))
 
--- src/link.rt:96:9
 failing-requires : tie.Need-failing-requires
 failing-requires c κs = search needs
 
--- src/link.rt:96:9
 returns-2 : tie.Need-returns-2
 unfolding supplicant
 returns-2 c = simp (ne-eqb _ _ (c .before .before .if1 .left), eq-eqb _ _ (c .before .if2 .taken)) (c .failing .ensures)
 
--- src/link.rt:99:9
 failing-requires-2 : tie.Need-failing-requires-2
 failing-requires-2 c κs = search needs
 
--- src/link.rt:99:9
 returns-3 : tie.Need-returns-3
 unfolding supplicant
 returns-3 c = simp (ne-eqb _ _ (c .before .before .before .if1 .left), ne-eqb _ _ (c .before .before .if2 .left), eq-eqb _ _ (c .before .if3 .taken)) (c .failing2 .ensures)
 
--- src/link.rt:89:1
 returns-4 : tie.Need-returns-4
 unfolding supplicant
 returns-4 c = simp (ne-eqb _ _ (c .before .before .if1 .left), ne-eqb _ _ (c .before .if2 .left), ne-eqb _ _ (c .if3 .left))

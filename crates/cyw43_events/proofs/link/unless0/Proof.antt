@@ -1,22 +1,14 @@
--- <<
-use borrow.Author.Tests.{eq-eqb, ne-eqb}
--- >>
 use borrow.Author.Needs.{needs}
+use borrow.Author.Tests.{eq-eqb, ne-eqb}
 use Rattle.cyw43_events.proofs.link.unless0.Statement.{statement}
 use Rattle.cyw43_events.proofs.link.unless0.Tie as tie
-use Rattle.cyw43_events.proofs.link.unless0.Reads as reads
-use Rattle.cyw43_events.proofs.link.unless0.Lts as lts
-use Rattle.cyw43_events.proofs.link.failing.Reads as failing-reads
 
--- src/link.rt:115:9
 returns : tie.Need-returns
 returns c = simp (eq-eqb _ _ (c .if1 .taken))
 
--- src/link.rt:117:5
 failing-requires : tie.Need-failing-requires
 failing-requires c κs = search needs
 
--- src/link.rt:111:1
 returns-2 : tie.Need-returns-2
 returns-2 c = simp (ne-eqb _ _ (c .before .if1 .left)) (c .failing .ensures)
 

@@ -1,14 +1,8 @@
--- <<
-use borrow.Author.Needs.{needs}
 use mathlib.Core.Path.{refl}
 use Rattle.cyw43_definition.specs.Scan.{cleared}
--- >>
 use Rattle.cyw43_events.proofs.scan.cleared.Statement.{statement}
 use Rattle.cyw43_events.proofs.scan.cleared.Tie as tie
-use Rattle.cyw43_events.proofs.scan.cleared.Reads as reads
-use Rattle.cyw43_events.proofs.scan.cleared.Lts as lts
 
--- src/scan.rt:77:1
 returns : tie.Need-returns
 unfolding cleared
 returns c = refl

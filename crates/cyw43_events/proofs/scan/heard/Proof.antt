@@ -1,42 +1,30 @@
--- <<
+use borrow.Author.Needs.{needs}
 use mathlib.Core.Path.{sym, _∙_}
 use borrow.Author.Tests.{lt-ltb, le-ltb}
 use Rattle.cyw43_definition.specs.Scan.{heard}
--- >>
-use borrow.Author.Needs.{needs}
 use Rattle.cyw43_events.proofs.scan.heard.Statement.{statement}
 use Rattle.cyw43_events.proofs.scan.heard.Tie as tie
-use Rattle.cyw43_events.proofs.scan.heard.Reads as reads
-use Rattle.cyw43_events.proofs.scan.heard.Lts as lts
-use Rattle.cyw43_events.proofs.scan.known.Reads as known-reads
 
--- src/scan.rt:65:8
 known-requires : tie.Need-known-requires
 known-requires c κs = search needs
 
--- src/scan.rt:66:9
 returns : tie.Need-returns
 unfolding heard
 returns c = rw (sym (c .before .known .ensures) ∙ c .if1 .taken)
 
--- src/scan.rt:70:9
 mul-r : tie.Need-mul-r
 mul-r c = search needs
 
--- src/scan.rt:70:9
 element-set-from-r : tie.Need-element-set-from-r
 element-set-from-r c = search needs
 
--- src/scan.rt:71:19
 add-t : tie.Need-add-t
 add-t c = search needs
 
--- src/scan.rt:72:9
 returns-2 : tie.Need-returns-2
 unfolding heard
 returns-2 c = rw (sym (c .before .before .known .ensures) ∙ c .before .if1 .left, lt-ltb _ 32 (c .if2 .taken))
 
--- src/scan.rt:60:1
 returns-3 : tie.Need-returns-3
 unfolding heard
 returns-3 c = rw (sym (c .before .before .known .ensures) ∙ c .before .if1 .left, le-ltb _ 32 (c .if2 .left))

@@ -1,29 +1,20 @@
--- <<
+use borrow.Author.Needs.{needs}
 use borrow.Author.Tests.{eq-eqb, ne-eqb}
 use Rattle.cyw43_definition.specs.Event.{listAfter}
--- >>
-use borrow.Author.Needs.{needs}
 use Rattle.cyw43_events.proofs.scan.list_after.Statement.{statement}
 use Rattle.cyw43_events.proofs.scan.list_after.Tie as tie
-use Rattle.cyw43_events.proofs.scan.list_after.Reads as reads
-use Rattle.cyw43_events.proofs.scan.list_after.Lts as lts
-use Rattle.cyw43_events.proofs.scan.heard.Reads as heard-reads
 
--- src/scan.rt:105:9
 returns : tie.Need-returns
 unfolding listAfter
 returns c = simp (ne-eqb _ _ (c .if1 .taken))
 
--- src/scan.rt:109:9
 heard-requires : tie.Need-heard-requires
 heard-requires c κs = search needs
 
--- src/scan.rt:109:9
 returns-2 : tie.Need-returns-2
 unfolding listAfter
 returns-2 c = simp (eq-eqb _ _ (c .before .before .before .before .if1 .left), eq-eqb _ _ (c .before .before .if2 .taken)) (c .heard .ensures)
 
--- src/scan.rt:101:1
 returns-3 : tie.Need-returns-3
 unfolding listAfter
 returns-3 c = simp (eq-eqb _ _ (c .before .before .if1 .left), ne-eqb _ _ (c .if2 .left))

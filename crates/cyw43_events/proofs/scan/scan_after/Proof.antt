@@ -1,24 +1,16 @@
--- <<
-use borrow.Author.Needs.{needs}
 use borrow.Author.Tests.{eq-eqb, ne-eqb}
 use Rattle.cyw43_definition.specs.Event.{scanAfter}
--- >>
 use Rattle.cyw43_events.proofs.scan.scan_after.Statement.{statement}
 use Rattle.cyw43_events.proofs.scan.scan_after.Tie as tie
-use Rattle.cyw43_events.proofs.scan.scan_after.Reads as reads
-use Rattle.cyw43_events.proofs.scan.scan_after.Lts as lts
 
--- src/scan.rt:90:9
 returns : tie.Need-returns
 unfolding scanAfter
 returns c = simp (ne-eqb _ _ (c .if1 .taken))
 
--- src/scan.rt:93:9
 returns-2 : tie.Need-returns-2
 unfolding scanAfter
 returns-2 c = simp (eq-eqb _ _ (c .before .before .if1 .left), eq-eqb _ _ (c .if2 .taken))
 
--- src/scan.rt:86:1
 returns-3 : tie.Need-returns-3
 unfolding scanAfter
 returns-3 c = simp (eq-eqb _ _ (c .before .before .if1 .left), ne-eqb _ _ (c .if2 .left))

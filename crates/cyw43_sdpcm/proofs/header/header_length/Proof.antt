@@ -1,17 +1,10 @@
--- <<
-use borrow.Author.Needs.{needs}
 use borrow.Author.Tests.{ne-eqb}
--- >>
 use Rattle.cyw43_sdpcm.proofs.header.header_length.Statement.{statement}
 use Rattle.cyw43_sdpcm.proofs.header.header_length.Tie as tie
-use Rattle.cyw43_sdpcm.proofs.header.header_length.Reads as reads
-use Rattle.cyw43_sdpcm.proofs.header.header_length.Lts as lts
 
--- src/header.rt:36:1
 returns : tie.Need-returns
 returns c = simp (c .if1 .taken)
 
--- src/header.rt:36:1
 returns-2 : tie.Need-returns-2
 returns-2 c = simp (ne-eqb _ _ (c .if1 .left))
 

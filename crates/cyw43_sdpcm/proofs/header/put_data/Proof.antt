@@ -1,30 +1,20 @@
--- <<
-use Rattle.cyw43_sdpcm.proofs.Laws.{data-part-is}
--- >>
 use borrow.Author.Needs.{needs}
+use Rattle.cyw43_sdpcm.proofs.Laws.{data-part-is}
 use Rattle.cyw43_sdpcm.proofs.header.put_data.Statement.{statement}
 use Rattle.cyw43_sdpcm.proofs.header.put_data.Tie as tie
-use Rattle.cyw43_sdpcm.proofs.header.put_data.Reads as reads
-use Rattle.cyw43_sdpcm.proofs.header.put_data.Lts as lts
-use Rattle.slices.proofs.copy_over.Reads as copy-over-reads
 
--- src/header.rt:58:32
 slice-aggregate-copy-over : tie.Need-slice-aggregate-copy-over
 slice-aggregate-copy-over c = search needs
 
--- src/header.rt:58:5
 copy-over-requires : tie.Need-copy-over-requires
 copy-over-requires c κs = search needs
 
--- src/header.rt:59:5
 copy-over-requires-2 : tie.Need-copy-over-requires-2
 copy-over-requires-2 c κs = search needs
 
--- src/header.rt:54:1
 same-length : tie.Need-same-length
 same-length c = search needs
 
--- src/header.rt:54:1
 returns : tie.Need-returns
 returns c = data-part-is _ _ _ _ _ (c .before .before .before .before .before .before .copy-over .ensures) (c .before .before .copy-over2 .ensures)
 

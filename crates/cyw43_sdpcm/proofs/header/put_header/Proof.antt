@@ -1,44 +1,29 @@
--- <<
-use Rattle.cyw43_sdpcm.proofs.Laws.{header-is}
--- >>
 use borrow.Author.Needs.{needs}
+use Rattle.cyw43_sdpcm.proofs.Laws.{header-is}
 use Rattle.cyw43_sdpcm.proofs.header.put_header.Statement.{statement}
 use Rattle.cyw43_sdpcm.proofs.header.put_header.Tie as tie
-use Rattle.cyw43_sdpcm.proofs.header.put_header.Reads as reads
-use Rattle.cyw43_sdpcm.proofs.header.put_header.Lts as lts
-use Rattle.cyw43_sdpcm.proofs.header.header_length.Reads as header-length-reads
-use Rattle.slices.proofs.copy_over.Reads as copy-over-reads
-use Rattle.slices.proofs.put_le16.Reads as put-le16-reads
 
--- src/header.rt:46:9
 header-length-requires : tie.Need-header-length-requires
 header-length-requires c κs = search needs
 
--- src/header.rt:48:5
 put-le16-requires : tie.Need-put-le16-requires
 put-le16-requires c κs = search needs
 
--- src/header.rt:49:30
 sub-put-le16 : tie.Need-sub-put-le16
 sub-put-le16 c = search needs
 
--- src/header.rt:49:5
 put-le16-requires-2 : tie.Need-put-le16-requires-2
 put-le16-requires-2 c κs = search needs
 
--- src/header.rt:50:31
 slice-aggregate-copy-over : tie.Need-slice-aggregate-copy-over
 slice-aggregate-copy-over c = search needs
 
--- src/header.rt:50:5
 copy-over-requires : tie.Need-copy-over-requires
 copy-over-requires c κs = search needs
 
--- src/header.rt:43:1
 same-length : tie.Need-same-length
 same-length c = search needs
 
--- src/header.rt:43:1
 returns : tie.Need-returns
 returns c = header-is _ _ _ _ _ _ _ _ (c .before .before .before .before .before .before .before .before .before .before .before .before .before .header-length .ensures) (c .before .before .before .before .before .before .before .before .before .before .before .put-le16 .ensures) (c .before .before .before .before .before .before .before .put-le162 .ensures) (c .before .before .copy-over .ensures)
 

@@ -1,42 +1,27 @@
--- <<
+use borrow.Author.Needs.{needs}
 use mathlib.Core.Path.{sym, _∙_}
 use Rattle.cyw43_sdpcm.proofs.Laws.{accepted-not, accepted-is}
--- >>
-use borrow.Author.Needs.{needs}
 use Rattle.cyw43_sdpcm.proofs.rx.accepted.Statement.{statement}
 use Rattle.cyw43_sdpcm.proofs.rx.accepted.Tie as tie
-use Rattle.cyw43_sdpcm.proofs.rx.accepted.Reads as reads
-use Rattle.cyw43_sdpcm.proofs.rx.accepted.Lts as lts
-use Rattle.cyw43_sdpcm.proofs.rx.credits.Reads as credits-reads
-use Rattle.cyw43_types.proofs.state.set_credit.Reads as set-credit-reads
-use Rattle.cyw43_types.proofs.state.set_flow.Reads as set-flow-reads
-use Rattle.slices.proofs.byte_at.Reads as byte-at-reads
 
--- src/rx.rt:50:32
 byte-at-requires : tie.Need-byte-at-requires
 byte-at-requires c κs = search needs
 
--- src/rx.rt:50:9
 set-flow-requires : tie.Need-set-flow-requires
 set-flow-requires c κs = search needs
 
--- src/rx.rt:51:8
 credits-requires : tie.Need-credits-requires
 credits-requires c κs = search needs
 
--- src/rx.rt:52:37
 byte-at-requires-2 : tie.Need-byte-at-requires-2
 byte-at-requires-2 c κs = search needs
 
--- src/rx.rt:52:9
 set-credit-requires : tie.Need-set-credit-requires
 set-credit-requires c κs = search needs
 
--- src/rx.rt:52:9
 returns : tie.Need-returns
 returns c = accepted-is (c .before .before .before .before .before .before .before .args .buf .now) (c .before .before .before .before .before .before .before .args .s) _ _ _ _ (sym (c .before .before .before .credits .ensures) ∙ c .before .before .if1 .taken) (c .before .before .before .before .before .byte-at .ensures) (c .before .before .before .before .set-flow .ensures) (c .before .byte-at2 .ensures) (c .set-credit .ensures)
 
--- src/rx.rt:47:1
 returns-2 : tie.Need-returns-2
 returns-2 c = accepted-not (c .before .before .before .before .before .args .buf .now) (c .before .before .before .before .before .args .s) _ _ (sym (c .before .credits .ensures) ∙ c .if1 .left) (c .before .before .before .byte-at .ensures) (c .before .before .set-flow .ensures)
 

@@ -1,19 +1,12 @@
--- <<
-use borrow.Author.Needs.{needs}
-use Rattle.cyw43_definition.specs.Packet.{eventAt}
 use borrow.Author.Tests.{lt-ltb, le-ltb}
--- >>
+use Rattle.cyw43_definition.specs.Packet.{eventAt}
 use Rattle.cyw43_sdpcm.proofs.rx.event_at.Statement.{statement}
 use Rattle.cyw43_sdpcm.proofs.rx.event_at.Tie as tie
-use Rattle.cyw43_sdpcm.proofs.rx.event_at.Reads as reads
-use Rattle.cyw43_sdpcm.proofs.rx.event_at.Lts as lts
 
--- src/rx.rt:116:9
 returns : tie.Need-returns
 unfolding eventAt
 returns c = simp (lt-ltb _ _ (c .if1 .taken))
 
--- src/rx.rt:111:1
 returns-2 : tie.Need-returns-2
 unfolding eventAt
 returns-2 c = simp (le-ltb _ _ (c .if1 .left))

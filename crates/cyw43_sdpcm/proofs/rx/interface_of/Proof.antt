@@ -1,24 +1,16 @@
--- <<
-use borrow.Author.Needs.{needs}
-use Rattle.cyw43_definition.specs.Packet.{interfaceOf}
 use borrow.Author.Tests.{ne-eqb}
--- >>
+use Rattle.cyw43_definition.specs.Packet.{interfaceOf}
 use Rattle.cyw43_sdpcm.proofs.rx.interface_of.Statement.{statement}
 use Rattle.cyw43_sdpcm.proofs.rx.interface_of.Tie as tie
-use Rattle.cyw43_sdpcm.proofs.rx.interface_of.Reads as reads
-use Rattle.cyw43_sdpcm.proofs.rx.interface_of.Lts as lts
 
--- src/rx.rt:80:9
 returns : tie.Need-returns
 unfolding interfaceOf
 returns c = simp (c .if1 .taken)
 
--- src/rx.rt:83:9
 returns-2 : tie.Need-returns-2
 unfolding interfaceOf
 returns-2 c = simp (c .if2 .taken)
 
--- src/rx.rt:76:1
 returns-3 : tie.Need-returns-3
 unfolding interfaceOf
 returns-3 c = simp (ne-eqb _ _ (c .before .if1 .left), ne-eqb _ _ (c .if2 .left))

@@ -1,31 +1,20 @@
--- <<
-use Rattle.cyw43_sdpcm.proofs.Laws.{packet-not, packet-by}
--- >>
 use borrow.Author.Needs.{needs}
+use Rattle.cyw43_sdpcm.proofs.Laws.{packet-not, packet-by}
 use Rattle.cyw43_sdpcm.proofs.rx.is_packet.Statement.{statement}
 use Rattle.cyw43_sdpcm.proofs.rx.is_packet.Tie as tie
-use Rattle.cyw43_sdpcm.proofs.rx.is_packet.Reads as reads
-use Rattle.cyw43_sdpcm.proofs.rx.is_packet.Lts as lts
-use Rattle.cyw43_sdpcm.proofs.header.complement_in.Reads as complement-in-reads
-use Rattle.cyw43_sdpcm.proofs.header.size_in.Reads as size-in-reads
 
--- src/rx.rt:17:9
 size-in-requires : tie.Need-size-in-requires
 size-in-requires c κs = search needs
 
--- src/rx.rt:18:8
 complement-in-requires : tie.Need-complement-in-requires
 complement-in-requires c κs = search needs
 
--- src/rx.rt:18:30
 sub-if1 : tie.Need-sub-if1
 sub-if1 c = search needs
 
--- src/rx.rt:19:9
 returns : tie.Need-returns
 returns c = packet-not (c .before .before .before .before .args .buf .now) (search needs)
 
--- src/rx.rt:14:1
 returns-2 : tie.Need-returns-2
 returns-2 c = rw (c .before .before .size-in .ensures) (packet-by (c .before .before .before .before .args .buf .now) (search needs))
 

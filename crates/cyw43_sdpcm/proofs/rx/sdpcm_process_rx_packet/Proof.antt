@@ -1,48 +1,30 @@
--- <<
+use borrow.Author.Needs.{needs}
 use mathlib.Core.Path.{sym, _∙_}
 use Rattle.cyw43_sdpcm.proofs.Laws.{process-not, process-is}
--- >>
-use borrow.Author.Needs.{needs}
 use Rattle.cyw43_sdpcm.proofs.rx.sdpcm_process_rx_packet.Statement.{statement}
 use Rattle.cyw43_sdpcm.proofs.rx.sdpcm_process_rx_packet.Tie as tie
-use Rattle.cyw43_sdpcm.proofs.rx.sdpcm_process_rx_packet.Reads as reads
-use Rattle.cyw43_sdpcm.proofs.rx.sdpcm_process_rx_packet.Lts as lts
-use Rattle.cyw43_sdpcm.proofs.header.size_in.Reads as size-in-reads
-use Rattle.cyw43_sdpcm.proofs.rx.accepted.Reads as accepted-reads
-use Rattle.cyw43_sdpcm.proofs.rx.channel_in.Reads as channel-in-reads
-use Rattle.cyw43_sdpcm.proofs.rx.is_packet.Reads as is-packet-reads
-use Rattle.cyw43_sdpcm.proofs.rx.payload_of.Reads as payload-of-reads
-use Rattle.slices.proofs.byte_at.Reads as byte-at-reads
 
--- src/rx.rt:140:8
 is-packet-requires : tie.Need-is-packet-requires
 is-packet-requires c κs = search needs
 
--- src/rx.rt:141:13
 accepted-requires : tie.Need-accepted-requires
 accepted-requires c κs = search needs
 
--- src/rx.rt:144:13
 size-in-requires : tie.Need-size-in-requires
 size-in-requires c κs = search needs
 
--- src/rx.rt:145:13
 channel-in-requires : tie.Need-channel-in-requires
 channel-in-requires c κs = search needs
 
--- src/rx.rt:146:13
 byte-at-requires : tie.Need-byte-at-requires
 byte-at-requires c κs = search needs
 
--- src/rx.rt:142:13
 payload-of-requires : tie.Need-payload-of-requires
 payload-of-requires c κs = search needs
 
--- src/rx.rt:149:9
 returns : tie.Need-returns
 returns c = process-is (c .before .before .before .before .before .before .before .before .args .came) (c .before .before .before .before .before .before .before .before .args .buf .now) (c .before .before .before .before .before .before .before .before .args .s) _ _ _ _ _ (sym (c .before .before .before .before .before .before .is-packet .ensures) ∙ c .before .before .before .before .before .if1 .taken) (c .before .before .before .before .accepted .ensures) (c .before .before .before .size-in .ensures) (c .before .before .channel-in .ensures) (c .before .byte-at .ensures) (c .payload-of .ensures)
 
--- src/rx.rt:137:1
 returns-2 : tie.Need-returns-2
 returns-2 c = process-not (c .before .before .before .args .came) (c .before .before .before .args .buf .now) (c .before .before .before .args .s) (sym (c .before .is-packet .ensures) ∙ c .if1 .left)
 
