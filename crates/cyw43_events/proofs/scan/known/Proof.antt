@@ -1,0 +1,66 @@
+use borrow.Author.Needs.{needs}
+use Prim.Native.Nat.{_-_, _≤_}
+use mathlib.Core.Path.{_≡_, refl, sym, _∙_}
+use native.Mathlib.Omega.{arith}
+use lib.ListN.{length, take, drop}
+use Rattle.cyw43_definition.specs.Scan.{known}
+use Rattle.cyw43_events.proofs.Laws.{known-next, known-here, known-end}
+use Rattle.cyw43_events.proofs.scan.known.Statement.{statement}
+use Rattle.cyw43_events.proofs.scan.known.Tie as tie
+
+abbrev Inv-loop : tie.InvT-loop
+Inv-loop n r records m i₀ i = (i ≤ m) × (known (take n records) r ≡ known (drop i (take n records)) r)
+
+abbrev μ-loop : tie.MeasureT-loop
+μ-loop n r records m i₀ i = m - i
+
+-- the array has its 32 records
+size : (c : tie.Start Inv-loop μ-loop) → length (c .args .t1) ≡ 32
+size c = c .good .0 .1 .0 .1
+
+at-most-32-requires : tie.Need-at-most-32-requires Inv-loop μ-loop
+at-most-32-requires c κs = search needs
+
+loop-holds : tie.Need-loop-holds Inv-loop μ-loop
+loop-holds c = (search needs, refl)
+
+mul-s : tie.Need-mul-s Inv-loop μ-loop
+mul-s c = search needs
+
+array-copy-out-s : tie.Need-array-copy-out-s Inv-loop μ-loop
+array-copy-out-s c = search needs
+
+same-network-requires : tie.Need-same-network-requires Inv-loop μ-loop
+same-network-requires c κs = search needs
+
+returns : tie.Need-returns Inv-loop μ-loop
+returns c = sym (c .before .before .before .before .loop .inv .1 ∙ known-here (c .before .before .before .before .before .before .args .t1) (c .before .before .before .before .before .before .args .r) (c .before .before .before .before .before .before .args .n) (c .before .before .before .before .loop .i) _ (omega (arith, size (c .before .before .before .before .before .before))) (sym (c .before .same-network .ensures) ∙ c .if1 .taken))
+
+add-i : tie.Need-add-i Inv-loop μ-loop
+add-i c = search needs
+
+loop-less : tie.Need-loop-less Inv-loop μ-loop
+loop-less c = search needs
+
+loop-again : tie.Need-loop-again Inv-loop μ-loop
+loop-again c = (search needs, c .before .before .before .before .loop .inv .1 ∙ known-next (c .before .before .before .before .before .before .args .t1) (c .before .before .before .before .before .before .args .r) (c .before .before .before .before .before .before .args .n) (c .before .before .before .before .loop .i) _ (omega (arith, size (c .before .before .before .before .before .before))) (sym (c .before .same-network .ensures) ∙ c .if1 .left))
+
+returns-2 : tie.Need-returns-2 Inv-loop μ-loop
+returns-2 c = sym (c .before .loop .inv .1 ∙ known-end (c .before .before .before .args .t1) (c .before .before .before .args .r) (c .before .before .before .args .n) (c .before .loop .i) (omega (arith, size (c .before .before .before))))
+
+pub known-spec : {M : Type 1} → statement M
+known-spec =
+    tie.close
+    (tie.spec
+    Inv-loop
+    μ-loop
+    at-most-32-requires
+    loop-holds
+    mul-s
+    array-copy-out-s
+    same-network-requires
+    returns
+    add-i
+    loop-less
+    loop-again
+    returns-2)

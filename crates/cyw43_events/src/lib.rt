@@ -1,0 +1,4 @@
+// Events: their reader, and what they do to the connection and to the scan.
+pub mod event;
+pub mod link;
+pub mod scan;
