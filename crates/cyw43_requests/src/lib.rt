@@ -1,0 +1,3 @@
+// The driver's requests: what each lays into the work buffer, and the numbers that go with it.
+pub mod request;
+pub mod security;
