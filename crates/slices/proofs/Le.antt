@@ -5,13 +5,15 @@ use Prim.Native.Nat.{ℕ, zero, suc, _+_, _*_, _-_, _/_, _%_, _^_, _≤_, _<_}
 use native.Mathlib.Nat.{suc-add}
 use native.Mathlib.Numerals.{add-one}
 use native.Mathlib.Omega.{arith}
-use lib.ListN.{length, take, drop, getD}
+use lib.ListN.{length, take, drop, getD, length-take}
 use lib.Seq.{take-suc}
 use lib.IntN.{negsuc}
 use borrow.Author.Tests.{le-ltb}
 use mir.Syntax.{Width}
 use mir.Val.{toZ, bits, hbits}
+use Rattle.slices.specs.Over.{over}
 use Rattle.slices.specs.Le.{le32, le32At, bytesOf, packed, wordsFor}
+use Rattle.slices.proofs.Over.{over-append, over-enough}
 
 pub length-bytesOf : (ws : List ℕ) → length (bytesOf ws) ≡ 4 * length ws
 unfolding bytesOf
@@ -55,6 +57,13 @@ getD-bytesOf (w ∷ ws) (suc (suc (suc (suc k)))) h =
     let q : suc (suc (suc (suc k))) / 4 ≡ suc (k / 4) = omega arith in
     let r : suc (suc (suc (suc k))) % 4 ≡ k % 4 = omega arith in
     rw (q, r) (getD-bytesOf ws k (omega arith))
+
+-- the whole words that fit, then what fits of the next one
+pub bytesOf-cut : (d ws : List ℕ) (n : ℕ) → n < length ws → length d ≤ 4 * (n + 1)
+    → over (over d 0 (bytesOf (take n ws))) (4 * n) (le32 (getD ws n 0)) ≡ over d 0 (bytesOf ws)
+bytesOf-cut d ws n h k =
+    let e : 4 * n ≡ 0 + length (bytesOf (take n ws)) = omega (arith, length-bytesOf (take n ws), length-take n ws) in
+    rw (e, over-append, ← bytesOf-more ws n h, bytesOf-take) (over-enough d 0 (bytesOf ws) (4 * (n + 1)) (omega arith))
 
 pub length-packed : (bs : List ℕ) → length (packed bs) ≡ wordsFor (length bs)
 unfolding packed

@@ -1,18 +1,31 @@
 // Loops over slices, and numbers as bytes. Each contract is an equation: of the result, or of the lent slice at exit.
-// le and be are byte orders; a byte past a slice's end counts as 0.
+// le and be are byte orders; a byte past a slice's end counts as 0. What would be written past the end is left out.
 ghost use mathlib.Core.Path.{_≡_};
-ghost use Prim.Native.Nat.{_+_, _*_, _≤_, _<_};
+ghost use mathlib.Core.List.{[], _∷_};
+ghost use Prim.Native.Nat.{_+_, _-_, _*_, _≤_, _<_, min};
 ghost use lib.ListN.{length, take, drop, replicate, getD};
 ghost use Rattle.slices.specs.Over.{over};
 ghost use Rattle.slices.specs.Le.{le16, le32, le16At, le32At, be16At, be32At, bytesOf, packed, wordsFor, signed16, signed32};
 
+// How many of n elements fit into len, from index at on.
+pub fn fitting(len: usize, at: usize, n: usize) -> usize
+    ensures { λ r. ⌜ r ≡ min n (len - at) ⌝ }
+{
+    if at < len {
+        let room = len - at;
+        if n < room { n } else { room }
+    } else {
+        0
+    }
+}
+
 // Copies all of src into dst from index at on.
 pub fn copy_over(dst: &mut [u8], at: usize, src: &[u8])
-    requires { ⌜ at + length (now src) ≤ length (now dst) ⌝ }
     ensures { λ _. ⌜ now (dst .exit) ≡ over (now (dst .entry)) at (now (src .entry)) ⌝ }
 {
+    let n = fitting(dst.len(), at, src.len());
     let mut i = 0;
-    while i < src.len() {
+    while i < n {
         dst[at + i] = src[i];
         i += 1;
     }
@@ -20,11 +33,11 @@ pub fn copy_over(dst: &mut [u8], at: usize, src: &[u8])
 
 // Puts n zeros into dst from index at on.
 pub fn fill_zero(dst: &mut [u8], at: usize, n: usize)
-    requires { ⌜ at + n ≤ length (now dst) ⌝ }
     ensures { λ _. ⌜ now (dst .exit) ≡ over (now (dst .entry)) at (replicate n 0) ⌝ }
 {
+    let k = fitting(dst.len(), at, n);
     let mut i = 0;
-    while i < n {
+    while i < k {
         dst[at + i] = 0;
         i += 1;
     }
@@ -32,21 +45,20 @@ pub fn fill_zero(dst: &mut [u8], at: usize, n: usize)
 
 // Copies the n bytes from index from on to index to on; the two ranges may overlap.
 pub fn copy_within(buf: &mut [u8], from: usize, n: usize, to: usize)
-    requires { ⌜ from + n ≤ length (now buf) ⌝ }
-    requires { ⌜ to + n ≤ length (now buf) ⌝ }
     ensures { λ _. ⌜ now (buf .exit) ≡ over (now (buf .entry)) to (take n (drop from (now (buf .entry)))) ⌝ }
 {
+    let k = fitting(buf.len(), to, fitting(buf.len(), from, n));
     if to <= from {
-        copy_down(buf, from, n, to);
+        copy_down(buf, from, k, to);
     } else {
-        copy_up(buf, from, n, to);
+        copy_up(buf, from, k, to);
     }
 }
 
-// The same where to is at most from: front first.
+// The same where all n are there and fit, and to is at most from: front first.
 fn copy_down(buf: &mut [u8], from: usize, n: usize, to: usize)
     requires { ⌜ to ≤ from ⌝ }
-    requires { ⌜ from + n ≤ length (now buf) ⌝ }
+    requires { ⌜ n ≤ length (now buf) - from ⌝ }
     ensures { λ _. ⌜ now (buf .exit) ≡ over (now (buf .entry)) to (take n (drop from (now (buf .entry)))) ⌝ }
 {
     let mut i = 0;
@@ -59,7 +71,7 @@ fn copy_down(buf: &mut [u8], from: usize, n: usize, to: usize)
 // The same where to is at least from: end first.
 fn copy_up(buf: &mut [u8], from: usize, n: usize, to: usize)
     requires { ⌜ from ≤ to ⌝ }
-    requires { ⌜ to + n ≤ length (now buf) ⌝ }
+    requires { ⌜ n ≤ length (now buf) - to ⌝ }
     ensures { λ _. ⌜ now (buf .exit) ≡ over (now (buf .entry)) to (take n (drop from (now (buf .entry)))) ⌝ }
 {
     let mut i = n;
@@ -136,17 +148,39 @@ pub fn byte_of(w: u32, j: usize) -> u8
     }
 }
 
+// Puts b into dst at index i.
+pub fn put_byte(dst: &mut [u8], i: usize, b: u8)
+    ensures { λ _. ⌜ now (dst .exit) ≡ over (now (dst .entry)) i (b ∷ []) ⌝ }
+{
+    if i < dst.len() {
+        dst[i] = b;
+    }
+}
+
 // Puts the two bytes of n into dst from index at on.
 pub fn put_le16(dst: &mut [u8], at: usize, n: u16)
-    requires { ⌜ at + 2 ≤ length (now dst) ⌝ }
     ensures { λ _. ⌜ now (dst .exit) ≡ over (now (dst .entry)) at (le16 n) ⌝ }
 {
+    if dst.len() <= at {
+        return;
+    }
     dst[at] = (n % 256) as u8;
-    dst[at + 1] = (n / 256 % 256) as u8;
+    put_byte(dst, at + 1, (n / 256 % 256) as u8);
 }
 
 // Puts the four bytes of w into dst from index at on.
 pub fn put_le32(dst: &mut [u8], at: usize, w: u32)
+    ensures { λ _. ⌜ now (dst .exit) ≡ over (now (dst .entry)) at (le32 w) ⌝ }
+{
+    if fitting(dst.len(), at, 4) == 4 {
+        put_whole(dst, at, w);
+    } else {
+        put_cut(dst, at, w);
+    }
+}
+
+// The same where all four fit.
+fn put_whole(dst: &mut [u8], at: usize, w: u32)
     requires { ⌜ at + 4 ≤ length (now dst) ⌝ }
     ensures { λ _. ⌜ now (dst .exit) ≡ over (now (dst .entry)) at (le32 w) ⌝ }
 {
@@ -156,24 +190,48 @@ pub fn put_le32(dst: &mut [u8], at: usize, w: u32)
     dst[at + 3] = (w / 16777216 % 256) as u8;
 }
 
+// The same byte by byte.
+fn put_cut(dst: &mut [u8], at: usize, w: u32)
+    ensures { λ _. ⌜ now (dst .exit) ≡ over (now (dst .entry)) at (le32 w) ⌝ }
+{
+    let n = fitting(dst.len(), at, 4);
+    let mut i = 0;
+    while i < n {
+        dst[at + i] = byte_of(w, i);
+        i += 1;
+    }
+}
+
 // Puts the bytes of all the words into dst from index 0 on.
 pub fn unpack(dst: &mut [u8], words: &[u32])
-    requires { ⌜ 4 * length (now words) ≤ length (now dst) ⌝ }
     ensures { λ _. ⌜ now (dst .exit) ≡ over (now (dst .entry)) 0 (bytesOf (now (words .entry))) ⌝ }
 {
+    let n = fitting(dst.len() / 4, 0, words.len());
+    unpack_whole(dst, words, n);
+    if n < words.len() {
+        put_cut(dst, 4 * n, words[n]);
+    }
+}
+
+// The same for n words, all of which fit.
+fn unpack_whole(dst: &mut [u8], words: &[u32], n: usize)
+    requires { ⌜ n ≤ length (now words) ⌝ }
+    requires { ⌜ 4 * n ≤ length (now dst) ⌝ }
+    ensures { λ _. ⌜ now (dst .exit) ≡ over (now (dst .entry)) 0 (bytesOf (take n (now (words .entry)))) ⌝ }
+{
     let mut i = 0;
-    while i < words.len() {
-        put_le32(dst, 4 * i, words[i]);
+    while i < n {
+        put_whole(dst, 4 * i, words[i]);
         i += 1;
     }
 }
 
 // Puts the bytes, packed into words, into log from index at on.
 pub fn pack(log: &mut [u32], at: usize, bytes: &[u8])
-    requires { ⌜ at + wordsFor (length (now bytes)) ≤ length (now log) ⌝ }
     ensures { λ _. ⌜ now (log .exit) ≡ over (now (log .entry)) at (packed (now (bytes .entry))) ⌝ }
 {
-    let m = (bytes.len() + 3) / 4;
+    let n = bytes.len();
+    let m = fitting(log.len(), at, n / 4 + (n % 4 + 3) / 4);
     let mut i = 0;
     while i < m {
         log[at + i] = get_le32(bytes, 4 * i);

@@ -4,19 +4,25 @@ use Prim.Native.Nat.{_-_, _≤_}
 use mathlib.Core.Path.{refl, sym, _∙_}
 use native.Mathlib.Omega.{arith}
 use Rattle.slices.specs.Le.{packed}
-use Rattle.slices.proofs.Over.{Laid, laid-none, laid-more, laid-all}
+use Rattle.slices.proofs.Over.{Laid, laid-none, laid-more, laid-fits}
 use Rattle.slices.proofs.Le.{length-packed, getD-packed}
 use Rattle.slices.proofs.pack.Statement.{statement}
 use Rattle.slices.proofs.pack.Tie as tie
 
 abbrev Inv-loop : tie.InvT-loop
-Inv-loop log₀ at bytes m i₀ log i = (i ≤ m) × Laid log₀ at (packed bytes) i log
+Inv-loop log₀ at bytes n m i₀ log i = (i ≤ m) × Laid log₀ at (packed bytes) i log
 
 abbrev μ-loop : tie.MeasureT-loop
-μ-loop log₀ at bytes m i₀ log i = m - i
+μ-loop log₀ at bytes n m i₀ log i = m - i
 
-add-m : tie.Need-add-m Inv-loop μ-loop
-add-m c = search needs
+add-fitting : tie.Need-add-fitting Inv-loop μ-loop
+add-fitting c = search needs
+
+add-fitting-2 : tie.Need-add-fitting-2 Inv-loop μ-loop
+add-fitting-2 c = search needs
+
+fitting-requires : tie.Need-fitting-requires Inv-loop μ-loop
+fitting-requires c κs = search needs
 
 loop-holds : tie.Need-loop-holds Inv-loop μ-loop
 loop-holds c = (search needs, laid-none refl)
@@ -44,14 +50,14 @@ loop-less c = search needs
 
 loop-again : tie.Need-loop-again Inv-loop μ-loop
 loop-again c =
-    let bs = c .before .before .before .before .before .args .bytes .now in
+    let bs = c .before .before .before .before .before .before .args .bytes .now in
     (search needs, laid-more 0 (c .before .before .loop .inv .1) (omega (arith, length-packed bs)) refl refl (c .get-le32 .ensures ∙ sym (getD-packed bs (c .before .before .loop .i))))
 
 same-length : tie.Need-same-length Inv-loop μ-loop
 same-length c = c .before .loop .inv .1 .len
 
 returns : tie.Need-returns Inv-loop μ-loop
-returns c = laid-all (c .before .loop .inv .1) (omega (arith, length-packed (c .before .before .before .before .args .bytes .now)))
+returns c = laid-fits (c .before .loop .inv .1) (omega (arith, length-packed (c .before .before .before .before .before .args .bytes .now)))
 
 pub pack-spec : {M : Type 1} → statement M
 pack-spec =
@@ -59,7 +65,9 @@ pack-spec =
     (tie.spec
     Inv-loop
     μ-loop
-    add-m
+    add-fitting
+    add-fitting-2
+    fitting-requires
     loop-holds
     mul-get-le32
     get-le32-requires

@@ -1,10 +1,13 @@
 use borrow.Author.Needs.{needs}
+use mathlib.Core.Path.{sym}
 use mathlib.Core.List.{[], _∷_}
-use native.Mathlib.Omega.{arith}
 use lib.ListN.{length-set}
-use Rattle.slices.proofs.Over.{stores-over}
+use Rattle.slices.proofs.Over.{set-over, over-past, over-append, length-over}
 use Rattle.slices.proofs.put_le16.Statement.{statement}
 use Rattle.slices.proofs.put_le16.Tie as tie
+
+returns : tie.Need-returns
+returns c = sym (over-past _ _ _ (c .if1 .taken))
 
 cast-dst : tie.Need-cast-dst
 cast-dst c = search needs
@@ -12,22 +15,30 @@ cast-dst c = search needs
 slice-write-dst : tie.Need-slice-write-dst
 slice-write-dst c = search needs
 
-cast-dst-2 : tie.Need-cast-dst-2
-cast-dst-2 c = search needs
+add-put-byte : tie.Need-add-put-byte
+add-put-byte c = search needs
 
-add-dst : tie.Need-add-dst
-add-dst c = search needs
+cast-put-byte : tie.Need-cast-put-byte
+cast-put-byte c = search needs
 
-slice-write-dst-2 : tie.Need-slice-write-dst-2
-slice-write-dst-2 c = simp length-set (omega arith)
+put-byte-requires : tie.Need-put-byte-requires
+put-byte-requires c κs = search needs
 
 same-length : tie.Need-same-length
-same-length c = search needs
+same-length c = rw (c .before .before .put-byte .ensures, length-over, length-set)
 
-returns : tie.Need-returns
-returns c = stores-over _ _ _ (_ ∷ [])
+returns-2 : tie.Need-returns-2
+returns-2 c = rw (c .before .before .put-byte .ensures, set-over) (over-append _ _ (_ ∷ []) _)
 
 pub put-le16-spec : {M : Type 1} → statement M
 put-le16-spec =
     tie.close
-    (tie.spec cast-dst slice-write-dst cast-dst-2 add-dst slice-write-dst-2 same-length returns)
+    (tie.spec
+    returns
+    cast-dst
+    slice-write-dst
+    add-put-byte
+    cast-put-byte
+    put-byte-requires
+    same-length
+    returns-2)

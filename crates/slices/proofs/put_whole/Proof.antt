@@ -3,8 +3,8 @@ use mathlib.Core.List.{[], _∷_}
 use native.Mathlib.Omega.{arith}
 use lib.ListN.{length-set}
 use Rattle.slices.proofs.Over.{stores-over}
-use Rattle.slices.proofs.put_le32.Statement.{statement}
-use Rattle.slices.proofs.put_le32.Tie as tie
+use Rattle.slices.proofs.put_whole.Statement.{statement}
+use Rattle.slices.proofs.put_whole.Tie as tie
 
 cast-dst : tie.Need-cast-dst
 cast-dst c = search needs
@@ -45,8 +45,8 @@ same-length c = search needs
 returns : tie.Need-returns
 returns c = stores-over _ _ _ (_ ∷ _ ∷ _ ∷ [])
 
-pub put-le32-spec : {M : Type 1} → statement M
-put-le32-spec =
+pub put-whole-spec : {M : Type 1} → statement M
+put-whole-spec =
     tie.close
     (tie.spec
     cast-dst
