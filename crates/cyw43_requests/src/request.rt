@@ -2,7 +2,7 @@
 // that the numbers here are its numbers. The call's byte arguments are not held here: the SSID, and a variable's name, are the
 // first; the passphrase, and a variable's data, are the second.
 ghost use mathlib.Core.Path.{_≡_};
-ghost use Prim.Native.Nat.{_+_, _-_};
+ghost use Prim.Native.Nat.{_<_};
 ghost use lib.ListN.{length};
 ghost use Rattle.cyw43_definition.specs.Calls.{oneOf, isCommand, isInterface};
 ghost use Rattle.cyw43_requests.specs.Number as number;
@@ -99,8 +99,8 @@ pub fn request_interface(r: Request) -> u32
     }
 }
 
-fn name_len(v: IovarName) -> usize
-    ensures { λ n. ⌜ n ≡ number.nameLength v ⌝ }
+pub fn name_len(v: IovarName) -> usize
+    ensures { λ n. ⌜ (n ≡ number.nameLength v) × (n < 256) ⌝ }
 {
     match v {
         IovarName::BusTxglom => 10,

@@ -28,7 +28,7 @@ name-len-requires c κs = search needs
 
 -- src/request.rt:132:33
 add-result : tie.Need-add-result
-add-result c = ?
+add-result c = search needs
 
 -- src/request.rt:133:28
 enum-known-r-2 : tie.Need-enum-known-r-2
@@ -40,7 +40,7 @@ name-len-requires-2 c κs = search needs
 
 -- src/request.rt:133:40
 add-result-2 : tie.Need-add-result-2
-add-result-2 c = ?
+add-result-2 c = search needs
 
 -- src/request.rt:134:35
 enum-told-4 : tie.Need-enum-told-4
@@ -120,11 +120,11 @@ returns-3 c = search needs
 
 -- src/request.rt:125:1
 returns-4 : tie.Need-returns-4
-returns-4 c = ?
+returns-4 c = rw (c .before .before .r .given .1, c .name-len .ensures .0)
 
 -- src/request.rt:125:1
 returns-5 : tie.Need-returns-5
-returns-5 c = ?
+returns-5 c = rw (c .before .before .r2 .given .1, c .name-len2 .ensures .0)
 
 -- src/request.rt:125:1
 returns-6 : tie.Need-returns-6
@@ -144,19 +144,19 @@ returns-9 c = search needs
 
 -- src/request.rt:125:1
 returns-10 : tie.Need-returns-10
-returns-10 c = ?
+returns-10 c = rw (c .before .enum-told8 .given .1, c .larger .ensures)
 
 -- src/request.rt:125:1
 returns-11 : tie.Need-returns-11
-returns-11 c = ?
+returns-11 c = rw (c .before .enum-told9 .given .1, c .larger2 .ensures)
 
 -- src/request.rt:125:1
 returns-12 : tie.Need-returns-12
-returns-12 c = ?
+returns-12 c = rw (c .before .enum-told10 .given .1, c .larger3 .ensures)
 
 -- src/request.rt:125:1
 returns-13 : tie.Need-returns-13
-returns-13 c = ?
+returns-13 c = rw (c .enum-told11 .given .1)
 
 pub payload-len-spec : {M : Type 1} → statement M
 payload-len-spec =

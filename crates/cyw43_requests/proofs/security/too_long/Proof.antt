@@ -1,3 +1,4 @@
+use Rattle.cyw43_definition.specs.Join.{tooLong}
 use borrow.Author.Needs.{needs}
 use Rattle.cyw43_requests.proofs.security.too_long.Statement.{statement}
 use Rattle.cyw43_requests.proofs.security.too_long.Tie as tie
@@ -30,27 +31,33 @@ enum-told-6 c = search needs
 
 -- src/security.rt:101:1
 returns : tie.Need-returns
-returns c = ?
+unfolding tooLong
+returns c = rw (c .enum-told .given .1)
 
 -- src/security.rt:101:1
 returns-2 : tie.Need-returns-2
-returns-2 c = ?
+unfolding tooLong
+returns-2 c = rw (c .enum-told2 .given .1)
 
 -- src/security.rt:101:1
 returns-3 : tie.Need-returns-3
-returns-3 c = ?
+unfolding tooLong
+returns-3 c = rw (c .enum-told3 .given .1)
 
 -- src/security.rt:101:1
 returns-4 : tie.Need-returns-4
-returns-4 c = ?
+unfolding tooLong
+returns-4 c = rw (c .enum-told4 .given .1)
 
 -- src/security.rt:101:1
 returns-5 : tie.Need-returns-5
-returns-5 c = ?
+unfolding tooLong
+returns-5 c = rw (c .enum-told5 .given .1)
 
 -- src/security.rt:101:1
 returns-6 : tie.Need-returns-6
-returns-6 c = ?
+unfolding tooLong
+returns-6 c = rw (c .enum-told6 .given .1)
 
 pub too-long-spec : {M : Type 1} → statement M
 too-long-spec =
