@@ -1,12 +1,11 @@
 -- What the runs of stores of a request come to.
-use mathlib.Core.Path.{_≡_, refl, sym, ap, _∙_}
-use mathlib.Core.List.{List, [], _∷_, _++_, append-nil, append-assoc}
+use mathlib.Core.Path.{_≡_, refl, sym, ap}
+use mathlib.Core.List.{[], _∷_, _++_, append-nil, append-assoc}
 use Prim.Native.Nat.{ℕ, zero, suc, _+_, _-_, _*_, _/_, _%_, _≤_}
 use native.Mathlib.Nat.{add-mul-mod-self-left}
 use native.Mathlib.Numerals.{unary-clauses}
 use native.Mathlib.Omega.{arith}
 use lib.ListN.{length, take, drop, replicate, length-append, length-drop, drop-of-length-le}
-use lib.Seq.{drop-nil}
 use Rattle.slices.specs.Over.{over}
 use Rattle.slices.specs.Le.{le16, le32}
 use Rattle.slices.proofs.Over as o
@@ -59,11 +58,12 @@ pub le32-low : (n : ℕ) → le32 (n % 4294967296) ≡ le32 n
 le32-low n =
     let low : ℕ = n % 4294967296 in
     let q : ℕ = n / 4294967296 in
-    rw
-    (same-byte n low (16777216 * q) (omega arith),
-    same-byte (n / 256) (low / 256) (65536 * q) (omega arith),
-    same-byte (n / 65536) (low / 65536) (256 * q) (omega arith),
-    same-byte (n / 16777216) (low / 16777216) q (omega arith))
+    rw (
+      same-byte n low (16777216 * q) (omega arith),
+      same-byte (n / 256) (low / 256) (65536 * q) (omega arith),
+      same-byte (n / 65536) (low / 65536) (256 * q) (omega arith),
+      same-byte (n / 16777216) (low / 16777216) q (omega arith),
+    )
 
 -- ---- a variable: d, with its name, a zero and the bytes s laid over its front, is e
 

@@ -1,19 +1,17 @@
 -- The numbers of each request are those of the definition's request.
-use mathlib.Core.Path.{_≡_, refl, ap, _∙_}
-use Prim.Native.Nat.{ℕ, _+_, _*_, _-_, _%_}
+use mathlib.Core.Path.{_≡_, refl, ap}
+use Prim.Native.Nat.{ℕ, _+_, _*_}
 use native.Mathlib.Omega.{arith}
-use mathlib.Core.List.{List, [], _∷_, _++_}
-use lib.ListN.{length, replicate, length-append, length-replicate}
+use mathlib.Core.List.{_++_}
+use lib.ListN.{length, length-append, length-replicate}
 use Rattle.slices.specs.Le.{le32, bytesOf}
 use Rattle.cyw43_definition.specs.Bus.{Bytes}
-use Rattle.cyw43_definition.specs.Request as to
 use Rattle.cyw43_definition.specs.Request.{ascii, country, eventMessages, eventMask, escan, scanOptions, currentAddress, wlcUp, joinSsid, setKey, saePassword, filled, named, ioctlHeader}
 use Rattle.cyw43_requests.specs.declared.request.IovarName.{IovarName}
 use Rattle.cyw43_requests.specs.declared.request.IovarName.the-variants as var
 use Rattle.cyw43_requests.specs.declared.request.Request.{Request}
 use Rattle.cyw43_requests.specs.declared.request.Request.the-variants as the
 use Rattle.cyw43_requests.specs.Request.{nameOf, requestOf}
-use Rattle.cyw43_requests.proofs.Lay.{le32-low}
 use Rattle.cyw43_requests.specs.Number.{Numbers, with, numbers, nameLength, larger, payloadLength}
 
 numbers-are : (r : Request) (a b : Bytes) → numbers r ≡ with ((requestOf r a b) .kind) ((requestOf r a b) .cmd) ((requestOf r a b) .interface)
@@ -76,19 +74,11 @@ payload-length the.Key a b = omega (arith, length-filled 64 b)
 payload-length the.SaePassword a b = omega (arith, length-filled 128 b)
 payload-length (the.Variable interface) a b = length-named a b
 
--- ---- the header
-
-abbrev pub header : ℕ → ℕ → ℕ → Bytes
-header c l f = le32 c ++ (le32 l ++ (le32 f ++ le32 0))
-
-header-low : (c l f : ℕ) → header c (l % 4294967296) (f % 4294967296) ≡ header c l f
-header-low c l f =
-    ap (λ (s : Bytes). le32 c ++ (s ++ (le32 (f % 4294967296) ++ le32 0))) (le32-low l)
-    ∙ ap (λ (s : Bytes). le32 c ++ (le32 l ++ (s ++ le32 0))) (le32-low f)
-
+-- the header, made of these numbers
 pub header-is : (r : Request) (a b : Bytes) (id : ℕ)
-    → header ((numbers r) .cmd) (payloadLength r (length a) (length b) % 4294967296)
-        ((id * 65536 + (numbers r) .interface * 4096 + (numbers r) .kind) % 4294967296)
-        ≡ ioctlHeader (requestOf r a b) id
+    → le32 ((numbers r) .cmd)
+    ++ (le32 (payloadLength r (length a) (length b))
+    ++ (le32 (id * 65536 + (numbers r) .interface * 4096 + (numbers r) .kind) ++ le32 0))
+    ≡ ioctlHeader (requestOf r a b) id
 unfolding ioctlHeader
-header-is r a b id = rw (cmd-is r a b, interface-is r a b, kind-is r a b, ← payload-length r a b) (header-low _ _ _)
+header-is r a b id = rw (cmd-is r a b, interface-is r a b, kind-is r a b, ← payload-length r a b)

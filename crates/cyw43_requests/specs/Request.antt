@@ -1,7 +1,6 @@
 -- Which request of the definition each request is. first and second are the call's byte arguments: SSID or name, passphrase or data.
-use Prim.Native.Nat.{ℕ}
 use Prim.Native.String.{String}
-use mathlib.Core.List.{List, [], _∷_}
+use mathlib.Core.List.{[], _∷_}
 use Rattle.cyw43_definition.specs.Bus.{Bytes}
 use Rattle.cyw43_definition.specs.Request as to
 use Rattle.cyw43_requests.specs.declared.request.IovarName.{IovarName}

@@ -6,12 +6,26 @@ ghost use mathlib.Core.Path.{_≡_};
 ghost use mathlib.Core.List.{[], _∷_};
 ghost use Prim.Native.Nat.{_/_};
 ghost use lib.Dec.{eqb};
-ghost use lib.ListN.{length, replicate};
+ghost use lib.ListN.{replicate};
 ghost use Rattle.slices.specs.Pick.{pick};
 ghost use Rattle.slices.specs.Over.{over};
-ghost use Rattle.slices.specs.Le.{le32};
+ghost use Rattle.slices.specs.Le.{le16, le32};
 ghost use Rattle.cyw43_definition.specs.Request as to;
 ghost use Rattle.cyw43_requests.specs.Request.{nameOf, requestOf};
+
+// The low 16 bits of n, from index at on.
+fn put_low16(part: &mut [u8], at: usize, n: usize)
+    ensures { λ _. ⌜ now (part .exit) ≡ over (now (part .entry)) at (le16 n) ⌝ }
+{
+    slices::put_le16(part, at, (n % 65536) as u16);
+}
+
+// The low 32 bits of n, from index at on.
+pub fn put_low32(part: &mut [u8], at: usize, n: usize)
+    ensures { λ _. ⌜ now (part .exit) ≡ over (now (part .entry)) at (le32 n) ⌝ }
+{
+    slices::put_le32(part, at, (n % 4294967296) as u32);
+}
 
 // A variable's name and a zero.
 fn put_name(part: &mut [u8], name: &[u8])
@@ -150,14 +164,14 @@ fn put_filled(part: &mut [u8], at: usize, s: &[u8], n: usize)
 pub fn put_ssid(part: &mut [u8], ssid: &[u8])
     ensures { λ _. ⌜ now (part .exit) ≡ over (now (part .entry)) 0 ((to.joinSsid (now (ssid .entry))) .payload) ⌝ }
 {
-    slices::put_le32(part, 0, (ssid.len() % 4294967296) as u32);
+    put_low32(part, 0, ssid.len());
     put_filled(part, 4, ssid, 32);
 }
 
 pub fn put_key(part: &mut [u8], passphrase: &[u8])
     ensures { λ _. ⌜ now (part .exit) ≡ over (now (part .entry)) 0 ((to.setKey (now (passphrase .entry))) .payload) ⌝ }
 {
-    slices::put_le16(part, 0, (passphrase.len() % 65536) as u16);
+    put_low16(part, 0, passphrase.len());
     slices::put_le16(part, 2, 1);
     put_filled(part, 4, passphrase, 64);
 }
@@ -166,7 +180,7 @@ pub fn put_sae_password(part: &mut [u8], passphrase: &[u8])
     ensures { λ _. ⌜ now (part .exit) ≡ over (now (part .entry)) 0 ((to.saePassword (now (passphrase .entry))) .payload) ⌝ }
 {
     put_name(part, b"sae_password");
-    slices::put_le16(part, 13, (passphrase.len() % 65536) as u16);
+    put_low16(part, 13, passphrase.len());
     put_filled(part, 15, passphrase, 128);
 }
 
@@ -175,8 +189,15 @@ pub fn lay_payload(part: &mut [u8], r: Request, first: &[u8], second: &[u8])
 {
     match r {
         Request::Country(c) => put_country(part, c),
-        Request::SetWord { cmd: _, value, interface: _ } => put_word(part, value),
-        Request::GetWord { cmd: _, interface: _ } => put_zeros(part, 4),
+        Request::SetWord {
+            cmd: _,
+            value,
+            interface: _,
+        } => put_word(part, value),
+        Request::GetWord {
+            cmd: _,
+            interface: _,
+        } => put_zeros(part, 4),
         Request::Iovar(v, x) => put_iovar(part, v, x),
         Request::IovarPair(v, x, y) => put_iovar_pair(part, v, x, y),
         Request::EventMessages => put_event_messages(part),

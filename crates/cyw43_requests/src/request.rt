@@ -23,8 +23,15 @@ pub enum IovarName {
 
 pub enum Request {
     Country(u32),
-    SetWord { cmd: u32, value: u32, interface: u32 },
-    GetWord { cmd: u32, interface: u32 },
+    SetWord {
+        cmd: u32,
+        value: u32,
+        interface: u32,
+    },
+    GetWord {
+        cmd: u32,
+        interface: u32,
+    },
     Iovar(IovarName, u32),
     IovarPair(IovarName, u32, u32),
     EventMessages,
@@ -44,8 +51,15 @@ pub fn request_kind(r: Request) -> u32
 {
     match r {
         Request::Country(_) => 2,
-        Request::SetWord { cmd: _, value: _, interface: _ } => 2,
-        Request::GetWord { cmd: _, interface: _ } => 0,
+        Request::SetWord {
+            cmd: _,
+            value: _,
+            interface: _,
+        } => 2,
+        Request::GetWord {
+            cmd: _,
+            interface: _,
+        } => 0,
         Request::Iovar(_, _) => 2,
         Request::IovarPair(_, _, _) => 2,
         Request::EventMessages => 2,
@@ -64,7 +78,11 @@ pub fn request_cmd(r: Request) -> u32
 {
     match r {
         Request::Country(_) => 263,
-        Request::SetWord { cmd, value: _, interface: _ } => cmd,
+        Request::SetWord {
+            cmd,
+            value: _,
+            interface: _,
+        } => cmd,
         Request::GetWord { cmd, interface: _ } => cmd,
         Request::Iovar(_, _) => 263,
         Request::IovarPair(_, _, _) => 263,
@@ -84,7 +102,11 @@ pub fn request_interface(r: Request) -> u32
 {
     match r {
         Request::Country(_) => 0,
-        Request::SetWord { cmd: _, value: _, interface } => interface,
+        Request::SetWord {
+            cmd: _,
+            value: _,
+            interface,
+        } => interface,
         Request::GetWord { cmd: _, interface } => interface,
         Request::Iovar(_, _) => 0,
         Request::IovarPair(_, _, _) => 0,
@@ -127,8 +149,15 @@ pub fn payload_len(r: Request, first: &[u8], second: &[u8]) -> usize
 {
     match r {
         Request::Country(_) => 20,
-        Request::SetWord { cmd: _, value: _, interface: _ } => 4,
-        Request::GetWord { cmd: _, interface: _ } => 4,
+        Request::SetWord {
+            cmd: _,
+            value: _,
+            interface: _,
+        } => 4,
+        Request::GetWord {
+            cmd: _,
+            interface: _,
+        } => 4,
         Request::Iovar(v, _) => name_len(v) + 5,
         Request::IovarPair(v, _, _) => name_len(v) + 9,
         Request::EventMessages => 41,
@@ -160,7 +189,27 @@ pub fn is_command(cmd: u32) -> bool
     ensures { λ r. ⌜ r ≡ isCommand cmd ⌝ }
 {
     let commands = [
-        2u32, 20, 22, 23, 25, 26, 30, 52, 63, 64, 78, 85, 86, 110, 134, 142, 159, 165, 262, 263, 268,
+        2u32,
+        20,
+        22,
+        23,
+        25,
+        26,
+        30,
+        52,
+        63,
+        64,
+        78,
+        85,
+        86,
+        110,
+        134,
+        142,
+        159,
+        165,
+        262,
+        263,
+        268,
     ];
     one_of(cmd, &commands)
 }

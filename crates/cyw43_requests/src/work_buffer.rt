@@ -1,12 +1,13 @@
 // Requests and replies in the work buffer.
 use crate::payload::lay_payload;
+use crate::payload::put_low32;
 use crate::request::Request;
 use crate::request::payload_len;
 use crate::request::request_cmd;
 use crate::request::request_interface;
 use crate::request::request_kind;
 ghost use mathlib.Core.Path.{_≡_};
-ghost use Prim.Native.Nat.{_+_, _*_, _%_};
+ghost use Prim.Native.Nat.{_+_, _*_};
 ghost use lib.ListN.{take, drop};
 ghost use Rattle.slices.specs.Over.{over};
 ghost use Rattle.cyw43_definition.specs.Request.{ioctlHeader};
@@ -24,12 +25,12 @@ pub fn lay_request(buf: &mut [u8], r: Request, first: &[u8], second: &[u8])
     lay_payload(&mut buf[28..], r, first, second);
 }
 
-fn flags(r: Request, id: u8) -> u32
-    ensures { λ n. ⌜ n ≡ (id * 65536 + (numbers r) .interface * 4096 + (numbers r) .kind) % 4294967296 ⌝ }
+fn flags(r: Request, id: u8) -> usize
+    ensures { λ n. ⌜ n ≡ id * 65536 + (numbers r) .interface * 4096 + (numbers r) .kind ⌝ }
 {
-    let i = request_interface(r) as u64;
-    let k = request_kind(r) as u64;
-    (((id as u64) * 65536 + i * 4096 + k) % 4294967296) as u32
+    let i = request_interface(r) as usize;
+    let k = request_kind(r) as usize;
+    (id as usize) * 65536 + i * 4096 + k
 }
 
 // The 16 bytes before the payload.
@@ -37,8 +38,8 @@ pub fn put_ioctl_header(buf: &mut [u8], r: Request, first: &[u8], second: &[u8],
     ensures { λ _. ⌜ now (buf .exit) ≡ over (now (buf .entry)) 12 (ioctlHeader (requestOf r (now (first .entry)) (now (second .entry))) id) ⌝ }
 {
     slices::put_le32(buf, 12, request_cmd(r));
-    slices::put_le32(buf, 16, (payload_len(r, first, second) % 4294967296) as u32);
-    slices::put_le32(buf, 20, flags(r, id));
+    put_low32(buf, 16, payload_len(r, first, second));
+    put_low32(buf, 20, flags(r, id));
     slices::put_le32(buf, 24, 0);
 }
 

@@ -1,230 +1,162 @@
--- <<
-use Rattle.cyw43_definition.specs.Request.{wlcUp}
--- >>
 use borrow.Author.Needs.{needs}
+use Rattle.cyw43_definition.specs.Request.{wlcUp}
 use Rattle.cyw43_requests.proofs.payload.lay_payload.Statement.{statement}
 use Rattle.cyw43_requests.proofs.payload.lay_payload.Tie as tie
-use Rattle.cyw43_requests.proofs.payload.lay_payload.Reads as reads
-use Rattle.cyw43_requests.proofs.payload.lay_payload.Lts as lts
-use Rattle.cyw43_requests.proofs.payload.put_address.Reads as put-address-reads
-use Rattle.cyw43_requests.proofs.payload.put_country.Reads as put-country-reads
-use Rattle.cyw43_requests.proofs.payload.put_escan.Reads as put-escan-reads
-use Rattle.cyw43_requests.proofs.payload.put_event_messages.Reads as put-event-messages-reads
-use Rattle.cyw43_requests.proofs.payload.put_iovar.Reads as put-iovar-reads
-use Rattle.cyw43_requests.proofs.payload.put_iovar_pair.Reads as put-iovar-pair-reads
-use Rattle.cyw43_requests.proofs.payload.put_key.Reads as put-key-reads
-use Rattle.cyw43_requests.proofs.payload.put_sae_password.Reads as put-sae-password-reads
-use Rattle.cyw43_requests.proofs.payload.put_ssid.Reads as put-ssid-reads
-use Rattle.cyw43_requests.proofs.payload.put_variable.Reads as put-variable-reads
-use Rattle.cyw43_requests.proofs.payload.put_word.Reads as put-word-reads
-use Rattle.cyw43_requests.proofs.payload.put_zeros.Reads as put-zeros-reads
 
--- src/payload.rt:177:26
 enum-known-r : tie.Need-enum-known-r
 enum-known-r c = search needs
 
--- src/payload.rt:177:32
 put-country-requires : tie.Need-put-country-requires
 put-country-requires c κs = search needs
 
--- src/payload.rt:178:36
 enum-known-r-2 : tie.Need-enum-known-r-2
 enum-known-r-2 c = search needs
 
--- src/payload.rt:178:61
 put-word-requires : tie.Need-put-word-requires
 put-word-requires c κs = search needs
 
--- src/payload.rt:179:64
 enum-told : tie.Need-enum-told
 enum-told c = search needs
 
--- src/payload.rt:179:54
 put-zeros-requires : tie.Need-put-zeros-requires
 put-zeros-requires c κs = search needs
 
--- src/payload.rt:180:24
 enum-known-r-3 : tie.Need-enum-known-r-3
 enum-known-r-3 c = search needs
 
--- src/payload.rt:180:33
 put-iovar-requires : tie.Need-put-iovar-requires
 put-iovar-requires c κs = search needs
 
--- src/payload.rt:181:28
 enum-known-r-4 : tie.Need-enum-known-r-4
 enum-known-r-4 c = search needs
 
--- src/payload.rt:181:40
 put-iovar-pair-requires : tie.Need-put-iovar-pair-requires
 put-iovar-pair-requires c κs = search needs
 
--- src/payload.rt:182:54
 enum-told-2 : tie.Need-enum-told-2
 enum-told-2 c = search needs
 
--- src/payload.rt:182:35
 put-event-messages-requires : tie.Need-put-event-messages-requires
 put-event-messages-requires c κs = search needs
 
--- src/payload.rt:183:37
 enum-told-3 : tie.Need-enum-told-3
 enum-told-3 c = search needs
 
--- src/payload.rt:183:27
 put-escan-requires : tie.Need-put-escan-requires
 put-escan-requires c κs = search needs
 
--- src/payload.rt:184:48
 enum-told-4 : tie.Need-enum-told-4
 enum-told-4 c = search needs
 
--- src/payload.rt:184:36
 put-address-requires : tie.Need-put-address-requires
 put-address-requires c κs = search needs
 
--- src/payload.rt:185:34
 enum-told-5 : tie.Need-enum-told-5
 enum-told-5 c = search needs
 
--- src/payload.rt:185:24
 put-zeros-requires-2 : tie.Need-put-zeros-requires-2
 put-zeros-requires-2 c κs = search needs
 
--- src/payload.rt:186:35
 enum-told-6 : tie.Need-enum-told-6
 enum-told-6 c = search needs
 
--- src/payload.rt:186:26
 put-ssid-requires : tie.Need-put-ssid-requires
 put-ssid-requires c κs = search needs
 
--- src/payload.rt:187:33
 enum-told-7 : tie.Need-enum-told-7
 enum-told-7 c = search needs
 
--- src/payload.rt:187:25
 put-key-requires : tie.Need-put-key-requires
 put-key-requires c κs = search needs
 
--- src/payload.rt:188:50
 enum-told-8 : tie.Need-enum-told-8
 enum-told-8 c = search needs
 
--- src/payload.rt:188:33
 put-sae-password-requires : tie.Need-put-sae-password-requires
 put-sae-password-requires c κs = search needs
 
--- src/payload.rt:189:46
 enum-told-9 : tie.Need-enum-told-9
 enum-told-9 c = search needs
 
--- src/payload.rt:189:33
 put-variable-requires : tie.Need-put-variable-requires
 put-variable-requires c κs = search needs
 
--- src/payload.rt:173:1
 same-length : tie.Need-same-length
 same-length c = search needs
 
--- src/payload.rt:173:1
 returns : tie.Need-returns
 returns c = rw (c .before .before .before .before .before .r .given .1) (c .before .before .put-country .ensures)
 
--- src/payload.rt:173:1
 same-length-2 : tie.Need-same-length-2
 same-length-2 c = search needs
 
--- src/payload.rt:173:1
 returns-2 : tie.Need-returns-2
 returns-2 c = rw (c .before .before .before .before .before .r2 .given .1) (c .before .before .put-word .ensures)
 
--- src/payload.rt:173:1
 same-length-3 : tie.Need-same-length-3
 same-length-3 c = search needs
 
--- src/payload.rt:173:1
 returns-3 : tie.Need-returns-3
 returns-3 c = rw (c .before .before .before .before .enum-told .given .1) (c .before .before .put-zeros .ensures)
 
--- src/payload.rt:173:1
 same-length-4 : tie.Need-same-length-4
 same-length-4 c = search needs
 
--- src/payload.rt:173:1
 returns-4 : tie.Need-returns-4
 returns-4 c = rw (c .before .before .before .before .before .r3 .given .1) (c .before .before .put-iovar .ensures)
 
--- src/payload.rt:173:1
 same-length-5 : tie.Need-same-length-5
 same-length-5 c = search needs
 
--- src/payload.rt:173:1
 returns-5 : tie.Need-returns-5
 returns-5 c = rw (c .before .before .before .before .before .r4 .given .1) (c .before .before .put-iovar-pair .ensures)
 
--- src/payload.rt:173:1
 same-length-6 : tie.Need-same-length-6
 same-length-6 c = search needs
 
--- src/payload.rt:173:1
 returns-6 : tie.Need-returns-6
 returns-6 c = rw (c .before .before .before .before .enum-told2 .given .1) (c .before .before .put-event-messages .ensures)
 
--- src/payload.rt:173:1
 same-length-7 : tie.Need-same-length-7
 same-length-7 c = search needs
 
--- src/payload.rt:173:1
 returns-7 : tie.Need-returns-7
 returns-7 c = rw (c .before .before .before .before .enum-told3 .given .1) (c .before .before .put-escan .ensures)
 
--- src/payload.rt:173:1
 same-length-8 : tie.Need-same-length-8
 same-length-8 c = search needs
 
--- src/payload.rt:173:1
 returns-8 : tie.Need-returns-8
 returns-8 c = rw (c .before .before .before .before .enum-told4 .given .1) (c .before .before .put-address .ensures)
 
--- src/payload.rt:173:1
 same-length-9 : tie.Need-same-length-9
 same-length-9 c = search needs
 
--- src/payload.rt:173:1
 returns-9 : tie.Need-returns-9
 unfolding wlcUp
 returns-9 c = rw (c .before .before .before .before .enum-told5 .given .1) (c .before .before .put-zeros2 .ensures)
 
--- src/payload.rt:173:1
 same-length-10 : tie.Need-same-length-10
 same-length-10 c = search needs
 
--- src/payload.rt:173:1
 returns-10 : tie.Need-returns-10
 returns-10 c = rw (c .before .before .before .before .enum-told6 .given .1) (c .before .before .put-ssid .ensures)
 
--- src/payload.rt:173:1
 same-length-11 : tie.Need-same-length-11
 same-length-11 c = search needs
 
--- src/payload.rt:173:1
 returns-11 : tie.Need-returns-11
 returns-11 c = rw (c .before .before .before .before .enum-told7 .given .1) (c .before .before .put-key .ensures)
 
--- src/payload.rt:173:1
 same-length-12 : tie.Need-same-length-12
 same-length-12 c = search needs
 
--- src/payload.rt:173:1
 returns-12 : tie.Need-returns-12
 returns-12 c = rw (c .before .before .before .before .enum-told8 .given .1) (c .before .before .put-sae-password .ensures)
 
--- src/payload.rt:173:1
 same-length-13 : tie.Need-same-length-13
 same-length-13 c = search needs
 
--- src/payload.rt:173:1
 returns-13 : tie.Need-returns-13
 returns-13 c = rw (c .before .before .before .before .enum-told9 .given .1) (c .before .before .put-variable .ensures)
 

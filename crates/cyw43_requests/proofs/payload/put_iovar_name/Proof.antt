@@ -1,219 +1,164 @@
--- <<
-use Rattle.cyw43_definition.specs.Request.{ascii}
--- >>
 use borrow.Author.Needs.{needs}
+use Rattle.cyw43_definition.specs.Request.{ascii}
 use Rattle.cyw43_requests.proofs.payload.put_iovar_name.Statement.{statement}
 use Rattle.cyw43_requests.proofs.payload.put_iovar_name.Tie as tie
-use Rattle.cyw43_requests.proofs.payload.put_iovar_name.Reads as reads
-use Rattle.cyw43_requests.proofs.payload.put_iovar_name.Lts as lts
-use Rattle.cyw43_requests.proofs.payload.put_name.Reads as put-name-reads
 
--- src/payload.rt:35:42
 enum-told : tie.Need-enum-told
 enum-told c = search needs
 
--- src/payload.rt:35:48
 slice-aggregate-put-name : tie.Need-slice-aggregate-put-name
 slice-aggregate-put-name c = search needs
 
--- src/payload.rt:35:33
 put-name-requires : tie.Need-put-name-requires
 put-name-requires c κs = search needs
 
--- src/payload.rt:36:38
 enum-told-2 : tie.Need-enum-told-2
 enum-told-2 c = search needs
 
--- src/payload.rt:36:44
 slice-aggregate-put-name-2 : tie.Need-slice-aggregate-put-name-2
 slice-aggregate-put-name-2 c = search needs
 
--- src/payload.rt:36:29
 put-name-requires-2 : tie.Need-put-name-requires-2
 put-name-requires-2 c κs = search needs
 
--- src/payload.rt:37:45
 enum-told-3 : tie.Need-enum-told-3
 enum-told-3 c = search needs
 
--- src/payload.rt:37:51
 slice-aggregate-put-name-3 : tie.Need-slice-aggregate-put-name-3
 slice-aggregate-put-name-3 c = search needs
 
--- src/payload.rt:37:36
 put-name-requires-3 : tie.Need-put-name-requires-3
 put-name-requires-3 c κs = search needs
 
--- src/payload.rt:38:42
 enum-told-4 : tie.Need-enum-told-4
 enum-told-4 c = search needs
 
--- src/payload.rt:38:48
 slice-aggregate-put-name-4 : tie.Need-slice-aggregate-put-name-4
 slice-aggregate-put-name-4 c = search needs
 
--- src/payload.rt:38:33
 put-name-requires-4 : tie.Need-put-name-requires-4
 put-name-requires-4 c κs = search needs
 
--- src/payload.rt:39:46
 enum-told-5 : tie.Need-enum-told-5
 enum-told-5 c = search needs
 
--- src/payload.rt:39:52
 slice-aggregate-put-name-5 : tie.Need-slice-aggregate-put-name-5
 slice-aggregate-put-name-5 c = search needs
 
--- src/payload.rt:39:37
 put-name-requires-5 : tie.Need-put-name-requires-5
 put-name-requires-5 c κs = search needs
 
--- src/payload.rt:40:39
 enum-told-6 : tie.Need-enum-told-6
 enum-told-6 c = search needs
 
--- src/payload.rt:40:45
 slice-aggregate-put-name-6 : tie.Need-slice-aggregate-put-name-6
 slice-aggregate-put-name-6 c = search needs
 
--- src/payload.rt:40:30
 put-name-requires-6 : tie.Need-put-name-requires-6
 put-name-requires-6 c κs = search needs
 
--- src/payload.rt:41:46
 enum-told-7 : tie.Need-enum-told-7
 enum-told-7 c = search needs
 
--- src/payload.rt:41:52
 slice-aggregate-put-name-7 : tie.Need-slice-aggregate-put-name-7
 slice-aggregate-put-name-7 c = search needs
 
--- src/payload.rt:41:37
 put-name-requires-7 : tie.Need-put-name-requires-7
 put-name-requires-7 c κs = search needs
 
--- src/payload.rt:42:42
 enum-told-8 : tie.Need-enum-told-8
 enum-told-8 c = search needs
 
--- src/payload.rt:42:48
 slice-aggregate-put-name-8 : tie.Need-slice-aggregate-put-name-8
 slice-aggregate-put-name-8 c = search needs
 
--- src/payload.rt:42:33
 put-name-requires-8 : tie.Need-put-name-requires-8
 put-name-requires-8 c κs = search needs
 
--- src/payload.rt:43:36
 enum-told-9 : tie.Need-enum-told-9
 enum-told-9 c = search needs
 
--- src/payload.rt:43:42
 slice-aggregate-put-name-9 : tie.Need-slice-aggregate-put-name-9
 slice-aggregate-put-name-9 c = search needs
 
--- src/payload.rt:43:27
 put-name-requires-9 : tie.Need-put-name-requires-9
 put-name-requires-9 c κs = search needs
 
--- src/payload.rt:44:40
 enum-told-10 : tie.Need-enum-told-10
 enum-told-10 c = search needs
 
--- src/payload.rt:44:46
 slice-aggregate-put-name-10 : tie.Need-slice-aggregate-put-name-10
 slice-aggregate-put-name-10 c = search needs
 
--- src/payload.rt:44:31
 put-name-requires-10 : tie.Need-put-name-requires-10
 put-name-requires-10 c κs = search needs
 
--- src/payload.rt:31:1
 same-length : tie.Need-same-length
 same-length c = search needs
 
--- src/payload.rt:31:1
 returns : tie.Need-returns
 unfolding ascii
 returns c = rw (c .before .before .before .before .before .enum-told .given .1) (c .before .before .put-name .ensures)
 
--- src/payload.rt:31:1
 same-length-2 : tie.Need-same-length-2
 same-length-2 c = search needs
 
--- src/payload.rt:31:1
 returns-2 : tie.Need-returns-2
 unfolding ascii
 returns-2 c = rw (c .before .before .before .before .before .enum-told2 .given .1) (c .before .before .put-name2 .ensures)
 
--- src/payload.rt:31:1
 same-length-3 : tie.Need-same-length-3
 same-length-3 c = search needs
 
--- src/payload.rt:31:1
 returns-3 : tie.Need-returns-3
 unfolding ascii
 returns-3 c = rw (c .before .before .before .before .before .enum-told3 .given .1) (c .before .before .put-name3 .ensures)
 
--- src/payload.rt:31:1
 same-length-4 : tie.Need-same-length-4
 same-length-4 c = search needs
 
--- src/payload.rt:31:1
 returns-4 : tie.Need-returns-4
 unfolding ascii
 returns-4 c = rw (c .before .before .before .before .before .enum-told4 .given .1) (c .before .before .put-name4 .ensures)
 
--- src/payload.rt:31:1
 same-length-5 : tie.Need-same-length-5
 same-length-5 c = search needs
 
--- src/payload.rt:31:1
 returns-5 : tie.Need-returns-5
 unfolding ascii
 returns-5 c = rw (c .before .before .before .before .before .enum-told5 .given .1) (c .before .before .put-name5 .ensures)
 
--- src/payload.rt:31:1
 same-length-6 : tie.Need-same-length-6
 same-length-6 c = search needs
 
--- src/payload.rt:31:1
 returns-6 : tie.Need-returns-6
 unfolding ascii
 returns-6 c = rw (c .before .before .before .before .before .enum-told6 .given .1) (c .before .before .put-name6 .ensures)
 
--- src/payload.rt:31:1
 same-length-7 : tie.Need-same-length-7
 same-length-7 c = search needs
 
--- src/payload.rt:31:1
 returns-7 : tie.Need-returns-7
 unfolding ascii
 returns-7 c = rw (c .before .before .before .before .before .enum-told7 .given .1) (c .before .before .put-name7 .ensures)
 
--- src/payload.rt:31:1
 same-length-8 : tie.Need-same-length-8
 same-length-8 c = search needs
 
--- src/payload.rt:31:1
 returns-8 : tie.Need-returns-8
 unfolding ascii
 returns-8 c = rw (c .before .before .before .before .before .enum-told8 .given .1) (c .before .before .put-name8 .ensures)
 
--- src/payload.rt:31:1
 same-length-9 : tie.Need-same-length-9
 same-length-9 c = search needs
 
--- src/payload.rt:31:1
 returns-9 : tie.Need-returns-9
 unfolding ascii
 returns-9 c = rw (c .before .before .before .before .before .enum-told9 .given .1) (c .before .before .put-name9 .ensures)
 
--- src/payload.rt:31:1
 same-length-10 : tie.Need-same-length-10
 same-length-10 c = search needs
 
--- src/payload.rt:31:1
 returns-10 : tie.Need-returns-10
 unfolding ascii
 returns-10 c = rw (c .before .before .before .before .before .enum-told10 .given .1) (c .before .before .put-name10 .ensures)

@@ -1,17 +1,10 @@
--- <<
-use borrow.Author.Needs.{needs}
 use borrow.Author.Tests.{ne-eqb}
--- >>
 use Rattle.cyw43_requests.proofs.payload.revision.Statement.{statement}
 use Rattle.cyw43_requests.proofs.payload.revision.Tie as tie
-use Rattle.cyw43_requests.proofs.payload.revision.Reads as reads
-use Rattle.cyw43_requests.proofs.payload.revision.Lts as lts
 
--- src/payload.rt:80:9
 returns : tie.Need-returns
 returns c = rw (c .if1 .taken)
 
--- src/payload.rt:75:1
 returns-2 : tie.Need-returns-2
 returns-2 c = rw (ne-eqb _ 0 (c .if1 .left))
 

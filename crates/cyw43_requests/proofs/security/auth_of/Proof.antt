@@ -2,35 +2,27 @@ use borrow.Author.Tests.{ne-eqb}
 use Rattle.cyw43_definition.specs.Join.{authOf}
 use Rattle.cyw43_requests.proofs.security.auth_of.Statement.{statement}
 use Rattle.cyw43_requests.proofs.security.auth_of.Tie as tie
-use Rattle.cyw43_requests.proofs.security.auth_of.Reads as reads
-use Rattle.cyw43_requests.proofs.security.auth_of.Lts as lts
 
--- src/security.rt:114:1
 returns : tie.Need-returns
 unfolding authOf
 returns c = rw (c .match .keys1)
 
--- src/security.rt:114:1
 returns-2 : tie.Need-returns-2
 unfolding authOf
 returns-2 c = rw (c .match .keys2)
 
--- src/security.rt:114:1
 returns-3 : tie.Need-returns-3
 unfolding authOf
 returns-3 c = rw (c .match .keys3)
 
--- src/security.rt:114:1
 returns-4 : tie.Need-returns-4
 unfolding authOf
 returns-4 c = rw (c .match .keys4)
 
--- src/security.rt:114:1
 returns-5 : tie.Need-returns-5
 unfolding authOf
 returns-5 c = rw (c .match .keys5)
 
--- src/security.rt:114:1
 returns-6 : tie.Need-returns-6
 unfolding authOf
 returns-6 c =
