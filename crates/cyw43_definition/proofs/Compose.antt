@@ -48,7 +48,7 @@ unfoldable pub unroll : {A : Type 0} → Prog A → Prog A
 unroll (ret a w) = ret a w
 unroll (stop e w) = stop e w
 unroll (ask q k) = ask q k
-unroll (say q p) = say q (unroll p)
+unroll (say q p) = say q p
 unroll (loop l w k) = ask (first l (w .st)) (λ x. bind (attempt (body l x w)) (turned l k))
 unroll (note n p) = unroll p
 
@@ -57,7 +57,7 @@ unfolding unroll bind
 unroll-bind f (ret a w) = refl
 unroll-bind f (stop e w) = refl
 unroll-bind f (ask q k) = refl
-unroll-bind f (say q p) = ap (say q) (unroll-bind f p)
+unroll-bind f (say q p) = refl
 unroll-bind f (loop l w k) = λ i. ask (first l (w .st)) (λ x. (ap (bind (attempt (body l x w))) (sym (turned-bind l k f)) ∙ sym (bind-assoc (turned l k) f (attempt (body l x w)))) i)
 unroll-bind f (note n p) = unroll-bind f p
 
@@ -66,7 +66,7 @@ unfolding unroll attempt
 unroll-attempt (ret a w) = refl
 unroll-attempt (stop e w) = refl
 unroll-attempt (ask q k) = refl
-unroll-attempt (say q p) = ap (say q) (unroll-attempt p)
+unroll-attempt (say q p) = refl
 unroll-attempt (loop l w k) = λ i. ask (first l (w .st)) (λ x. (ap (bind (attempt (body l x w))) (sym (turned-attempt l k)) ∙ sym (attempt-bind (turned l k) (body l x w))) i)
 unroll-attempt (note n p) = unroll-attempt p
 

@@ -1,0 +1,113 @@
+-- A poll's step is the tree's: at every point, for every answer, in every world.
+use mathlib.Core.Path.{_≡_, refl, sym, ap, _∙_}
+use mathlib.Core.Bool.{Bool, true, false, _&&_}
+use mathlib.Core.List.{List, []}
+use Prim.Native.Nat.{ℕ, zero, suc, _-_, _%_, _<_}
+use native.Mathlib.Omega.{arith}
+use lib.Bits.{bitAnd}
+use lib.Dec.{eqb}
+use Rattle.slices.specs.Pick.{pick}
+use Rattle.cyw43_types.specs.State.{withSdpcm, setMark}
+use Rattle.cyw43_types.specs.declared.bus.BusOp.{BusOp}
+use Rattle.cyw43_types.specs.declared.sdpcm.Received.{Received}
+use Rattle.cyw43_types.specs.declared.sdpcm.Sdpcm.{Sdpcm}
+use Rattle.cyw43_types.specs.declared.sdpcm.SdpcmPacket.{SdpcmPacket}
+use Rattle.cyw43_definition.specs.Bus.{Bytes, Op, Ans, fault, val, nowhere}
+use Rattle.cyw43_definition.specs.Prog.{World, world, withState, withBuf, Prog, ret, stop, ask, say, bind, valued, operate}
+use Rattle.cyw43_definition.specs.Packet.{sizeIn, complementIn, processRx}
+use Rattle.cyw43_definition.specs.Device.{landed, faulted, marked, hadPacket, packetIn, readIn, gotPacket, arrived, pending, unreadable, byStatus, statusRead, statusReads, acknowledge, interruptRead, pollFirst, pollBy, pollDevice}
+use Rattle.cyw43_definition.proofs.Compose.{unroll}
+use Rattle.cyw43_bus.specs.Op.{opOf}
+use Rattle.cyw43_device.specs.declared.PollPoint.{PollPoint}
+use Rattle.cyw43_device.specs.declared.Arrival.{Arrival}
+use Rattle.cyw43_device.specs.declared.PollNext.{PollNext}
+use Rattle.cyw43_device.specs.declared.PollStep.{PollStep}
+use Rattle.cyw43_device.specs.Poll.{pollOp, step, pollStart, acknowledged, interruptStep, statusStep, readStep, waited, gotStep, receivedStep, arrivedStep, valuedStep, pollAnswer}
+use Rattle.cyw43_device.specs.Meaning.{secretly, opIn, asking, told, landing, InRange, arrivalOf, arrivalAt, Kp, pollTree, pollShown, landedWorld, pollStepAt}
+
+-- 0x20 is tested, and the status read
+acknowledged-is : (i : ℕ) (w : World) → unroll (pick (eqb (bitAnd i 0x20) 0) (ret SdpcmPacket.None w) (statusReads 1000 w)) ≡ pollShown (acknowledged (w .st .sdpcm) i) w
+unfolding unroll acknowledged statusReads operate bind pollTree pollOp secretly asking Kp
+acknowledged-is i w = by (eqb (bitAnd i 0x20) 0)
+  where
+    by : (b : Bool) → unroll (pick b (ret SdpcmPacket.None w) (statusReads 1000 w)) ≡ pollShown (pick b (step (w .st .sdpcm) (PollNext.Got SdpcmPacket.None)) (step (w .st .sdpcm) (PollNext.Ask (PollPoint.Status 999)))) w
+    by true = refl
+    by false = refl
+
+interrupt-is : (v : ℕ) (w : World) → unroll (interruptRead v w) ≡ pollShown (interruptStep (w .st .sdpcm) v) w
+unfolding unroll interruptRead acknowledge interruptStep operate bind pollTree pollOp secretly asking Kp
+interrupt-is v w = by (eqb v 0)
+  where
+    by : (b : Bool) → unroll (bind (pick b (ret tt w) (bind (operate (Op.writeInterrupt v) w) (λ n u. ret tt u))) (λ u x. pick (eqb (bitAnd v 0x20) 0) (ret SdpcmPacket.None x) (statusReads 1000 x))) ≡ pollShown (pick b (acknowledged (w .st .sdpcm) v) (step (w .st .sdpcm) (PollNext.Ask (PollPoint.Acknowledge v)))) w
+    by true = acknowledged-is v w
+    by false = refl
+
+status-is : (s : ℕ) (w : World) → unroll (byStatus s w) ≡ pollShown (statusStep (w .st .sdpcm) s) w
+unfolding unroll byStatus statusStep operate bind pollTree pollOp secretly asking Kp
+status-is s w = by (eqb (bitAnd s 0x100) 0) (unreadable s)
+  where
+    by : (b c : Bool) → unroll (pick b (ret SdpcmPacket.None (marked false w)) (pick c (bind (operate Op.frameControl w) (λ n v. ret SdpcmPacket.None (marked false v))) (ask (Op.readPacket (pending s)) (λ x. arrived (pending s) x w)))) ≡ pollShown (pick b (step (setMark (w .st .sdpcm) false) (PollNext.Got SdpcmPacket.None)) (pick c (step (w .st .sdpcm) (PollNext.Ask PollPoint.FrameControl)) (step (w .st .sdpcm) (PollNext.Ask (PollPoint.Packet (pending s)))))) w
+    by true c = refl
+    by false true = refl
+    by false false = refl
+
+-- what follows a wait
+waited-is : (left : ℕ) (w : World) → unroll (statusReads left w) ≡ pollShown (waited (w .st .sdpcm) left) w
+unfolding unroll statusReads waited operate bind pollTree pollOp secretly asking Kp
+waited-is zero w = refl
+waited-is (suc left) w = refl
+
+read-is : (left s : ℕ) (w : World) → unroll (statusRead (statusReads left) s w) ≡ pollShown (readStep (w .st .sdpcm) left s) w
+unfolding unroll statusRead readStep pollTree pollOp secretly asking Kp
+read-is left s w = by (eqb s 0xffffffff)
+  where
+    by : (b : Bool) → unroll (pick b (say (Op.wait 1000) (statusReads left w)) (byStatus s w)) ≡ pollShown (pick b (step (w .st .sdpcm) (PollNext.Ask (PollPoint.Waited left))) (statusStep (w .st .sdpcm) s)) w
+    by true = refl
+    by false = status-is s w
+
+-- ---- a packet
+
+received-is : (s : Sdpcm) (r : Received) (w : World) → unroll (packetIn r (withState w (withSdpcm (w .st) s))) ≡ pollShown (gotStep s r) w
+unfolding unroll packetIn gotStep pollTree
+received-is s (Received.Packet p) w = refl
+received-is s Received.HeaderBeyond w = refl
+
+got-is : (n : ℕ) (w : World) → unroll (gotPacket n w) ≡ pollShown (arrivedStep (w .st .sdpcm) (arrivalOf n (w .buf) (w .st .sdpcm))) w
+unfolding unroll gotPacket readIn arrivedStep arrivalOf pollTree
+got-is n w = by (eqb (sizeIn (w .buf)) 0 && eqb (complementIn (w .buf)) 0)
+  where
+    by : (b : Bool) → unroll (pick b (ret SdpcmPacket.None (marked false w)) (readIn (processRx n (w .buf) (marked true w .st .sdpcm)) (marked true w))) ≡ pollShown (pick b (step (setMark (w .st .sdpcm) false) (PollNext.Got SdpcmPacket.None)) (receivedStep (processRx n (w .buf) (setMark (w .st .sdpcm) true)))) w
+    by true = refl
+    by false = received-is (processRx n (w .buf) (setMark (w .st .sdpcm) true) .sdpcm) (processRx n (w .buf) (setMark (w .st .sdpcm) true) .received) w
+
+-- ---- the bridge
+
+small16 : (v : ℕ) → v < 65536 → v % 65536 ≡ v
+small16 v h = omega arith
+
+small32 : (v : ℕ) → v < 4294967296 → v % 4294967296 ≡ v
+small32 v h = omega arith
+
+pub poll-is : (p : PollPoint) (x : Ans) (w : World) → InRange (pollOp p) x → unroll (Kp p x w) ≡ pollShown (pollStepAt p x w) (landedWorld (pollOp p) x w)
+unfolding Kp unroll bind valued arrived landing told arrivalAt pollOp pollAnswer valuedStep pollTree InRange
+poll-is PollPoint.Interrupt (fault p) w h = refl
+poll-is PollPoint.Interrupt (val v T) w h = rw (small16 v h) (interrupt-is v w)
+poll-is (PollPoint.Acknowledge i) (fault p) w h = refl
+poll-is (PollPoint.Acknowledge i) (val v T) w h = acknowledged-is i w
+poll-is (PollPoint.Status left) (fault p) w h = refl
+poll-is (PollPoint.Status left) (val v T) w h = rw (small32 v h) (read-is left v w)
+poll-is (PollPoint.Waited left) (fault p) w h = ?f
+poll-is (PollPoint.Waited left) (val v T) w h = waited-is left w
+poll-is PollPoint.FrameControl (fault p) w h = refl
+poll-is PollPoint.FrameControl (val v T) w h = refl
+poll-is (PollPoint.Packet n) (fault p) w h = refl
+poll-is (PollPoint.Packet n) (val v T) w h = got-is n (withBuf w (landed n T (w .buf)))
+
+-- a poll's beginning
+pub start-is : (w : World) → unroll (pollDevice w) ≡ pollTree (PollNext.Ask (pollStart (w .st .sdpcm))) w
+unfolding unroll pollDevice pollBy pollStart pollTree pollOp secretly asking Kp
+start-is w = by (hadPacket (w .st))
+  where
+    by : (b : Bool) → ask (pick b Op.readStatus Op.readInterrupt) (λ x. pick b (bind (valued x w) (statusRead (statusReads 999))) (bind (valued x w) interruptRead)) ≡ pollTree (PollNext.Ask (pick b (PollPoint.Status 999) PollPoint.Interrupt)) w
+    by true = refl
+    by false = refl
