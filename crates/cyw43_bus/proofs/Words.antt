@@ -1,7 +1,7 @@
 -- The laws of operations as words, and of what a read lays.
 use mathlib.Core.Path.{_≡_, refl, sym, ap, _∙_}
 use mathlib.Core.List.{List, [], _∷_, _++_}
-use Prim.Native.Nat.{ℕ, zero, suc, _+_, _-_, _*_, _≤_, _<_, min}
+use Prim.Native.Nat.{ℕ, zero, suc, _+_, _-_, _*_, _≤_, min}
 use native.Mathlib.Omega.{arith}
 use lib.ListN.{length, take, drop, length-take, length-drop, take-append-drop}
 use lib.Seq.{take-nil, drop-nil}
@@ -10,7 +10,7 @@ use Rattle.slices.specs.Le.{wordsFor, bytesOf, packed}
 use Rattle.slices.proofs.Over.{over-nil, over-hides}
 use Rattle.slices.proofs.Le.{length-packed, length-bytesOf, bytesOf-drop}
 use Rattle.cyw43_types.specs.declared.bus.BusOp.{BusOp}
-use Rattle.cyw43_definition.specs.Bus.{Bytes, Op, Place, wordsOf}
+use Rattle.cyw43_definition.specs.Bus.{Op, wordsOf}
 use Rattle.cyw43_definition.specs.Device.{landed}
 use Rattle.cyw43_bus.specs.Op.{opOf, bare, sentOf, firstOf}
 

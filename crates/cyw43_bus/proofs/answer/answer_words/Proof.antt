@@ -1,46 +1,34 @@
--- <<
+use borrow.Author.Needs.{needs}
 use borrow.Author.Tests.{ne-eqb}
 use Rattle.cyw43_definition.specs.Bus as def
--- >>
-use borrow.Author.Needs.{needs}
 use Rattle.cyw43_bus.proofs.answer.answer_words.Statement.{statement}
 use Rattle.cyw43_bus.proofs.answer.answer_words.Tie as tie
-use Rattle.cyw43_bus.proofs.answer.answer_words.Reads as reads
-use Rattle.cyw43_bus.proofs.answer.answer_words.Lts as lts
 
--- src/answer.rt:41:21
 cast-n : tie.Need-cast-n
 cast-n c = search needs
 
--- src/answer.rt:42:18
 add-result : tie.Need-add-result
 add-result c = search needs
 
--- src/answer.rt:42:13
 add-result-2 : tie.Need-add-result-2
 add-result-2 c = search needs
 
--- src/answer.rt:35:1
 returns : tie.Need-returns
 unfolding def.sizeOf
 returns c = rw (c .match .keys1)
 
--- src/answer.rt:35:1
 returns-2 : tie.Need-returns-2
 unfolding def.sizeOf
 returns-2 c = rw (c .match .keys2)
 
--- src/answer.rt:35:1
 returns-3 : tie.Need-returns-3
 unfolding def.sizeOf
 returns-3 c = rw (c .match .keys3)
 
--- src/answer.rt:35:1
 returns-4 : tie.Need-returns-4
 unfolding def.sizeOf
 returns-4 c = rw (c .match .keys4)
 
--- src/answer.rt:35:1
 returns-5 : tie.Need-returns-5
 unfolding def.sizeOf
 returns-5 c =

@@ -1,30 +1,21 @@
--- <<
+use borrow.Author.Needs.{needs}
 use borrow.Author.Tests.{ne-eqb}
 use mathlib.Core.Path.{sym, _∙_}
 use Rattle.cyw43_bus.specs.Taken.{takenFor}
--- >>
-use borrow.Author.Needs.{needs}
 use Rattle.cyw43_bus.proofs.answer.fault_for.Statement.{statement}
 use Rattle.cyw43_bus.proofs.answer.fault_for.Tie as tie
-use Rattle.cyw43_bus.proofs.answer.fault_for.Reads as reads
-use Rattle.cyw43_bus.proofs.answer.fault_for.Lts as lts
-use Rattle.cyw43_bus.proofs.answer.wanted.Reads as wanted-reads
 
--- src/answer.rt:135:9
 wanted-requires : tie.Need-wanted-requires
 wanted-requires c κs = search needs
 
--- src/answer.rt:137:9
 returns : tie.Need-returns
 unfolding takenFor
 returns c = rw (sym (c .before .wanted .ensures) ∙ c .if1 .taken)
 
--- src/answer.rt:140:9
 returns-2 : tie.Need-returns-2
 unfolding takenFor
 returns-2 c = rw (sym (c .before .before .wanted .ensures) ∙ c .if2 .taken)
 
--- src/answer.rt:132:1
 returns-3 : tie.Need-returns-3
 unfolding takenFor
 returns-3 c = rw (← c .before .before .wanted .ensures, ne-eqb _ 4 (c .before .if1 .left), ne-eqb _ 5 (c .if2 .left))

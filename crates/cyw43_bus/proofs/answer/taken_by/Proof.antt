@@ -1,35 +1,22 @@
--- <<
-
--- >>
 use borrow.Author.Needs.{needs}
 use Rattle.cyw43_bus.proofs.answer.taken_by.Statement.{statement}
 use Rattle.cyw43_bus.proofs.answer.taken_by.Tie as tie
-use Rattle.cyw43_bus.proofs.answer.taken_by.Reads as reads
-use Rattle.cyw43_bus.proofs.answer.taken_by.Lts as lts
-use Rattle.cyw43_bus.proofs.answer.fault_for.Reads as fault-for-reads
-use Rattle.cyw43_bus.proofs.answer.value_for.Reads as value-for-reads
 
--- src/answer.rt:162:25
 enum-known-a : tie.Need-enum-known-a
 enum-known-a c = search needs
 
--- src/answer.rt:162:35
 fault-for-requires : tie.Need-fault-for-requires
 fault-for-requires c κs = search needs
 
--- src/answer.rt:163:25
 enum-known-a-2 : tie.Need-enum-known-a-2
 enum-known-a-2 c = search needs
 
--- src/answer.rt:163:41
 value-for-requires : tie.Need-value-for-requires
 value-for-requires c κs = search needs
 
--- src/answer.rt:158:1
 returns : tie.Need-returns
 returns c = simp (c .before .before .a .given .1) (c .fault-for .ensures)
 
--- src/answer.rt:158:1
 returns-2 : tie.Need-returns-2
 returns-2 c = simp (c .before .before .a2 .given .1) (c .value-for .ensures)
 

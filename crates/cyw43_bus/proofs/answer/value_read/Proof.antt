@@ -1,18 +1,11 @@
--- <<
-use borrow.Author.Needs.{needs}
 use borrow.Author.Tests.{ne-eqb}
 use native.Mathlib.Omega.{arith}
--- >>
 use Rattle.cyw43_bus.proofs.answer.value_read.Statement.{statement}
 use Rattle.cyw43_bus.proofs.answer.value_read.Tie as tie
-use Rattle.cyw43_bus.proofs.answer.value_read.Reads as reads
-use Rattle.cyw43_bus.proofs.answer.value_read.Lts as lts
 
--- src/answer.rt:58:1
 returns : tie.Need-returns
 returns c b = rw (c .if1 .taken, ne-eqb (c .before .args .kind) 7 (λ e. omega arith))
 
--- src/answer.rt:58:1
 returns-2 : tie.Need-returns-2
 returns-2 c b = rw (c .if1 .left)
 

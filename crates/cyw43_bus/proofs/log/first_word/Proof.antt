@@ -1,109 +1,80 @@
--- <<
-use native.Mathlib.Omega.{arith}
--- >>
 use borrow.Author.Needs.{needs}
+use native.Mathlib.Omega.{arith}
 use Rattle.cyw43_bus.proofs.log.first_word.Statement.{statement}
 use Rattle.cyw43_bus.proofs.log.first_word.Tie as tie
-use Rattle.cyw43_bus.proofs.log.first_word.Reads as reads
-use Rattle.cyw43_bus.proofs.log.first_word.Lts as lts
 
--- src/log.rt:33:33
 enum-told : tie.Need-enum-told
 enum-told c = search needs
 
--- src/log.rt:34:30
 enum-told-2 : tie.Need-enum-told-2
 enum-told-2 c = search needs
 
--- src/log.rt:35:27
 enum-known-op : tie.Need-enum-known-op
 enum-known-op c = search needs
 
--- src/log.rt:35:47
 cast-result : tie.Need-cast-result
 cast-result c = search needs
 
--- src/log.rt:35:33
 add-result : tie.Need-add-result
 add-result c = search needs
 
--- src/log.rt:36:29
 enum-told-3 : tie.Need-enum-told-3
 enum-told-3 c = search needs
 
--- src/log.rt:37:28
 enum-told-4 : tie.Need-enum-told-4
 enum-told-4 c = search needs
 
--- src/log.rt:38:48
 enum-told-5 : tie.Need-enum-told-5
 enum-told-5 c = search needs
 
--- src/log.rt:38:48
 cast-result-2 : tie.Need-cast-result-2
 cast-result-2 c = search needs
 
--- src/log.rt:38:34
 add-result-2 : tie.Need-add-result-2
 add-result-2 c = search needs
 
--- src/log.rt:39:31
 enum-known-op-2 : tie.Need-enum-known-op-2
 enum-known-op-2 c = search needs
 
--- src/log.rt:39:51
 cast-result-3 : tie.Need-cast-result-3
 cast-result-3 c = search needs
 
--- src/log.rt:39:37
 add-result-3 : tie.Need-add-result-3
 add-result-3 c = search needs
 
--- src/log.rt:40:32
 enum-told-6 : tie.Need-enum-told-6
 enum-told-6 c = search needs
 
--- src/log.rt:41:21
 enum-known-op-3 : tie.Need-enum-known-op-3
 enum-known-op-3 c = search needs
 
--- src/log.rt:41:28
 add-result-4 : tie.Need-add-result-4
 add-result-4 c = search needs
 
--- src/log.rt:28:1
 returns : tie.Need-returns
 returns c = search needs
 
--- src/log.rt:28:1
 returns-2 : tie.Need-returns-2
 returns-2 c = search needs
 
--- src/log.rt:28:1
 returns-3 : tie.Need-returns-3
 returns-3 c = simp (c .before .op .given .1) (omega arith)
 
--- src/log.rt:28:1
 returns-4 : tie.Need-returns-4
 returns-4 c = search needs
 
--- src/log.rt:28:1
 returns-5 : tie.Need-returns-5
 returns-5 c = search needs
 
--- src/log.rt:28:1
 returns-6 : tie.Need-returns-6
 returns-6 c = simp (c .enum-told5 .given .1) (omega arith)
 
--- src/log.rt:28:1
 returns-7 : tie.Need-returns-7
 returns-7 c = simp (c .before .op2 .given .1) (omega arith)
 
--- src/log.rt:28:1
 returns-8 : tie.Need-returns-8
 returns-8 c = search needs
 
--- src/log.rt:28:1
 returns-9 : tie.Need-returns-9
 returns-9 c = simp (c .before .op3 .given .1) (omega arith)
 

@@ -1,28 +1,19 @@
--- <<
+use borrow.Author.Needs.{needs}
 use native.Mathlib.Omega.{arith}
 use lib.ListN.{length}
 use Rattle.cyw43_bus.proofs.Words.{sent-small, length-words}
--- >>
-use borrow.Author.Needs.{needs}
 use Rattle.cyw43_bus.proofs.log.op_words.Statement.{statement}
 use Rattle.cyw43_bus.proofs.log.op_words.Tie as tie
-use Rattle.cyw43_bus.proofs.log.op_words.Reads as reads
-use Rattle.cyw43_bus.proofs.log.op_words.Lts as lts
-use Rattle.cyw43_bus.proofs.log.sent.Reads as sent-reads
 
--- src/log.rt:49:10
 sent-requires : tie.Need-sent-requires
 sent-requires c κs = search needs
 
--- src/log.rt:49:10
 add-result : tie.Need-add-result
 add-result c = omega (arith, sent-small (c .before .before .args .op) (length (c .before .before .args .buf .now)))
 
--- src/log.rt:49:5
 add-result-2 : tie.Need-add-result-2
 add-result-2 c = search needs
 
--- src/log.rt:46:1
 returns : tie.Need-returns
 returns c = omega (arith, length-words (c .before .before .args .op) (c .before .before .args .buf .now))
 

@@ -1,4 +1,4 @@
--- <<
+use borrow.Author.Needs.{needs}
 use mathlib.Core.Path.{sym, _∙_}
 use mathlib.Core.List.{[], _∷_}
 use native.Mathlib.Nat.{sub-zero}
@@ -6,63 +6,48 @@ use native.Mathlib.Omega.{arith}
 use lib.ListN.{length, length-set}
 use Rattle.slices.proofs.Over.{over-past, over-append, set-over, length-over}
 use Rattle.cyw43_bus.proofs.Words.{sent-small, words-parts}
--- >>
-use borrow.Author.Needs.{needs}
 use Rattle.cyw43_bus.proofs.log.put_op.Statement.{statement}
 use Rattle.cyw43_bus.proofs.log.put_op.Tie as tie
-use Rattle.cyw43_bus.proofs.log.put_op.Reads as reads
-use Rattle.cyw43_bus.proofs.log.put_op.Lts as lts
-use Rattle.cyw43_bus.proofs.log.first_word.Reads as first-word-reads
-use Rattle.cyw43_bus.proofs.log.sent.Reads as sent-reads
-use Rattle.slices.proofs.pack.Reads as pack-reads
 
--- src/log.rt:57:9
 returns : tie.Need-returns
 returns c = sym (over-past _ _ _ (c .if1 .taken))
 
--- src/log.rt:59:9
 sent-requires : tie.Need-sent-requires
 sent-requires c κs = search needs
 
--- src/log.rt:60:15
 first-word-requires : tie.Need-first-word-requires
 first-word-requires c κs = c .sent .ensures .1
 
--- src/log.rt:60:5
 mul-log : tie.Need-mul-log
 mul-log c = search needs
 
--- src/log.rt:60:5
 slice-write-log : tie.Need-slice-write-log
 slice-write-log c = search needs
 
--- src/log.rt:61:23
 add-pack : tie.Need-add-pack
 add-pack c = search needs
 
--- src/log.rt:61:31
 sub-pack : tie.Need-sub-pack
 sub-pack c = search needs
 
--- src/log.rt:61:31
 part-pack-start : tie.Need-part-pack-start
 part-pack-start c = search needs
 
--- src/log.rt:61:31
 part-pack-end : tie.Need-part-pack-end
-part-pack-end c = omega (arith, sent-small (c .before .before .before .before .before .before .args .op) (length (c .before .before .before .before .before .before .args .buf .now)))
+part-pack-end c =
+    let a = c .before .before .before .before .before .before .args in
+    omega (arith, sent-small (a .op) (length (a .buf .now)))
 
--- src/log.rt:61:5
 pack-requires : tie.Need-pack-requires
 pack-requires c κs = search needs
 
--- src/log.rt:53:1
 same-length : tie.Need-same-length
 same-length c = rw (c .before .before .pack .ensures, length-over, length-set)
 
--- src/log.rt:53:1
 returns-2 : tie.Need-returns-2
-returns-2 c = rw (words-parts (c .before .before .before .before .before .before .before .before .before .before .args .op) (c .before .before .before .before .before .before .before .before .before .before .args .buf .now), ← c .before .before .before .before .before .before .sent .ensures .0, ← c .before .before .before .before .before .first-word .ensures) (c .before .before .pack .ensures ∙ rw (sub-zero, set-over) (over-append _ _ (_ ∷ []) _))
+returns-2 c =
+    let a = c .before .before .before .before .before .before .before .before .before .before .args in
+    rw (words-parts (a .op) (a .buf .now), ← c .before .before .before .before .before .before .sent .ensures .0, ← c .before .before .before .before .before .first-word .ensures) (c .before .before .pack .ensures ∙ rw (sub-zero, set-over) (over-append _ _ (_ ∷ []) _))
 
 pub put-op-spec : {M : Type 1} → statement M
 put-op-spec =

@@ -1,20 +1,15 @@
--- <<
+-- i bytes of the tail are down.
 use borrow.Author.Needs.{needs}
 use Prim.Native.Nat.{_+_, _-_, _*_, _≤_, _<_}
-use mathlib.Core.Path.{_≡_, refl, sym, _∙_}
+use mathlib.Core.Path.{refl, sym, _∙_}
 use native.Mathlib.Omega.{arith}
 use lib.ListN.{length, drop, length-drop}
 use lib.Seq.{getD-drop}
 use Rattle.slices.specs.Le.{bytesOf}
 use Rattle.slices.proofs.Over.{Laid, laid-none, laid-more, laid-fits}
 use Rattle.slices.proofs.Le.{length-bytesOf, getD-bytesOf}
--- >>
 use Rattle.cyw43_bus.proofs.read.put_tail.Statement.{statement}
 use Rattle.cyw43_bus.proofs.read.put_tail.Tie as tie
-use Rattle.cyw43_bus.proofs.read.put_tail.Reads as reads
-use Rattle.cyw43_bus.proofs.read.put_tail.Lts as lts
-use Rattle.slices.proofs.byte_of.Reads as byte-of-reads
-use Rattle.slices.proofs.fitting.Reads as fitting-reads
 
 abbrev Inv-loop : tie.InvT-loop
 Inv-loop buf₀ at words n all count i₀ buf i = (i ≤ count) × Laid buf₀ at (drop n (bytesOf words)) i buf
@@ -22,55 +17,42 @@ Inv-loop buf₀ at words n all count i₀ buf i = (i ≤ count) × Laid buf₀ a
 abbrev μ-loop : tie.MeasureT-loop
 μ-loop buf₀ at words n all count i₀ buf i = count - i
 
--- src/read.rt:12:15
 mul-all : tie.Need-mul-all Inv-loop μ-loop
 mul-all c = search needs
 
--- src/read.rt:13:48
 fitting-requires : tie.Need-fitting-requires Inv-loop μ-loop
 fitting-requires c κs = search needs
 
--- src/read.rt:13:9
 fitting-requires-2 : tie.Need-fitting-requires-2 Inv-loop μ-loop
 fitting-requires-2 c κs = search needs
 
--- src/read.rt:15:5
 loop-holds : tie.Need-loop-holds Inv-loop μ-loop
 loop-holds c = (search needs, laid-none refl)
 
--- src/read.rt:16:17
 add-j : tie.Need-add-j Inv-loop μ-loop
 add-j c = search needs
 
--- src/read.rt:17:39
 mul-byte-of : tie.Need-mul-byte-of Inv-loop μ-loop
 mul-byte-of c = search needs
 
--- src/read.rt:17:39
 shared-slice-read-byte-of : tie.Need-shared-slice-read-byte-of Inv-loop μ-loop
 shared-slice-read-byte-of c = search needs
 
--- src/read.rt:17:23
 byte-of-requires : tie.Need-byte-of-requires Inv-loop μ-loop
 byte-of-requires c κs = search needs
 
--- src/read.rt:17:13
 add-buf : tie.Need-add-buf Inv-loop μ-loop
 add-buf c = search needs
 
--- src/read.rt:17:9
 slice-write-buf : tie.Need-slice-write-buf Inv-loop μ-loop
 slice-write-buf c = search needs
 
--- src/read.rt:18:9
 add-i : tie.Need-add-i Inv-loop μ-loop
 add-i c = search needs
 
--- src/read.rt:15:5
 loop-less : tie.Need-loop-less Inv-loop μ-loop
 loop-less c = search needs
 
--- src/read.rt:15:5
 loop-again : tie.Need-loop-again Inv-loop μ-loop
 loop-again c =
     let ws = c .before .before .before .before .before .before .before .before .args .words .now in
@@ -79,11 +61,9 @@ loop-again c =
     let h : n + i < 4 * length ws = omega arith in
     (search needs, laid-more 0 (c .before .before .before .loop .inv .1) (omega (arith, length-drop n (bytesOf ws), length-bytesOf ws)) refl refl (c .byte-of .ensures ∙ sym (getD-drop n (bytesOf ws) i 0 ∙ getD-bytesOf ws (n + i) h)))
 
--- src/read.rt:9:1
 same-length : tie.Need-same-length Inv-loop μ-loop
 same-length c = c .before .loop .inv .1 .len
 
--- src/read.rt:9:1
 returns : tie.Need-returns Inv-loop μ-loop
 returns c =
     let ws = c .before .before .before .before .before .before .args .words .now in
