@@ -94,6 +94,13 @@ pub fn byte_at(s: &[u8], i: usize) -> u8
     if i < s.len() { s[i] } else { 0 }
 }
 
+// The word at index i, 0 past the end.
+pub fn word_at(s: &[u32], i: usize) -> u32
+    ensures { λ r. ⌜ r ≡ getD (now (s .entry)) i 0 ⌝ }
+{
+    if s.len() <= i { 0 } else { s[i] }
+}
+
 // The byte k after index at, also where at + k is too large for an index.
 pub fn byte_after(s: &[u8], at: usize, k: usize) -> u8
     ensures { λ r. ⌜ r ≡ getD (now (s .entry)) (at + k) 0 ⌝ }
@@ -230,8 +237,7 @@ fn unpack_whole(dst: &mut [u8], words: &[u32], n: usize)
 pub fn pack(log: &mut [u32], at: usize, bytes: &[u8])
     ensures { λ _. ⌜ now (log .exit) ≡ over (now (log .entry)) at (packed (now (bytes .entry))) ⌝ }
 {
-    let n = bytes.len();
-    let m = fitting(log.len(), at, n / 4 + (n % 4 + 3) / 4);
+    let m = fitting(log.len(), at, (bytes.len() + 3) / 4);
     let mut i = 0;
     while i < m {
         log[at + i] = get_le32(bytes, 4 * i);

@@ -10,16 +10,13 @@ use Rattle.slices.proofs.pack.Statement.{statement}
 use Rattle.slices.proofs.pack.Tie as tie
 
 abbrev Inv-loop : tie.InvT-loop
-Inv-loop log₀ at bytes n m i₀ log i = (i ≤ m) × Laid log₀ at (packed bytes) i log
+Inv-loop log₀ at bytes m i₀ log i = (i ≤ m) × Laid log₀ at (packed bytes) i log
 
 abbrev μ-loop : tie.MeasureT-loop
-μ-loop log₀ at bytes n m i₀ log i = m - i
+μ-loop log₀ at bytes m i₀ log i = m - i
 
 add-fitting : tie.Need-add-fitting Inv-loop μ-loop
 add-fitting c = search needs
-
-add-fitting-2 : tie.Need-add-fitting-2 Inv-loop μ-loop
-add-fitting-2 c = search needs
 
 fitting-requires : tie.Need-fitting-requires Inv-loop μ-loop
 fitting-requires c κs = search needs
@@ -66,7 +63,6 @@ pack-spec =
     Inv-loop
     μ-loop
     add-fitting
-    add-fitting-2
     fitting-requires
     loop-holds
     mul-get-le32
