@@ -5,7 +5,7 @@ use mathlib.Core.List.{List, []}
 use Prim.Native.Nat.{ℕ, zero, suc, _-_, _%_, _<_}
 use native.Mathlib.Omega.{arith}
 use lib.Bits.{bitAnd}
-use lib.Dec.{eqb}
+use lib.Dec.{eqb, eqb·suc-zero}
 use Rattle.slices.specs.Pick.{pick}
 use Rattle.cyw43_types.specs.State.{withSdpcm, setMark}
 use Rattle.cyw43_types.specs.declared.bus.BusOp.{BusOp}
@@ -13,8 +13,8 @@ use Rattle.cyw43_types.specs.declared.sdpcm.Received.{Received}
 use Rattle.cyw43_types.specs.declared.sdpcm.Sdpcm.{Sdpcm}
 use Rattle.cyw43_types.specs.declared.sdpcm.SdpcmPacket.{SdpcmPacket}
 use Rattle.cyw43_definition.specs.Bus.{Bytes, Op, Ans, fault, val, nowhere}
-use Rattle.cyw43_definition.specs.Prog.{World, world, withState, withBuf, Prog, ret, stop, ask, say, bind, valued, operate}
-use Rattle.cyw43_definition.specs.Packet.{sizeIn, complementIn, processRx}
+use Rattle.cyw43_definition.specs.Prog.{World, world, withState, withBuf, Note, Prog, ret, stop, ask, say, note, bind, valued, operate}
+use Rattle.cyw43_definition.specs.Packet.{sizeIn, complementIn, advance, processRx}
 use Rattle.cyw43_definition.specs.Device.{landed, faulted, marked, hadPacket, packetIn, readIn, gotPacket, arrived, pending, unreadable, byStatus, statusRead, statusReads, acknowledge, interruptRead, pollFirst, pollBy, pollDevice}
 use Rattle.cyw43_definition.proofs.Compose.{unroll}
 use Rattle.cyw43_bus.specs.Op.{opOf}
@@ -38,7 +38,7 @@ interrupt-is : (v : ℕ) (w : World) → unroll (interruptRead v w) ≡ pollShow
 unfolding unroll interruptRead acknowledge interruptStep operate bind pollTree pollOp secretly asking Kp
 interrupt-is v w = by (eqb v 0)
   where
-    by : (b : Bool) → unroll (bind (pick b (ret tt w) (bind (operate (Op.writeInterrupt v) w) (λ n u. ret tt u))) (λ u x. pick (eqb (bitAnd v 0x20) 0) (ret SdpcmPacket.None x) (statusReads 1000 x))) ≡ pollShown (pick b (acknowledged (w .st .sdpcm) v) (step (w .st .sdpcm) (PollNext.Ask (PollPoint.Acknowledge v)))) w
+    by : (b : Bool) → unroll (bind {A = Unit {0}} (pick b (ret tt w) (bind (operate (Op.writeInterrupt v) w) (λ n u. ret tt u))) (λ u x. pick (eqb (bitAnd v 0x20) 0) (ret SdpcmPacket.None x) (statusReads 1000 x))) ≡ pollShown (pick b (acknowledged (w .st .sdpcm) v) (step (w .st .sdpcm) (PollNext.Ask (PollPoint.Acknowledge v)))) w
     by true = acknowledged-is v w
     by false = refl
 
@@ -51,11 +51,14 @@ status-is s w = by (eqb (bitAnd s 0x100) 0) (unreadable s)
     by false true = refl
     by false false = refl
 
+less : (n : ℕ) → suc n - 1 ≡ n
+less n = omega arith
+
 -- what follows a wait
 waited-is : (left : ℕ) (w : World) → unroll (statusReads left w) ≡ pollShown (waited (w .st .sdpcm) left) w
 unfolding unroll statusReads waited operate bind pollTree pollOp secretly asking Kp
 waited-is zero w = refl
-waited-is (suc left) w = refl
+waited-is (suc left) w = rw (eqb·suc-zero left, less left) refl
 
 read-is : (left s : ℕ) (w : World) → unroll (statusRead (statusReads left) s w) ≡ pollShown (readStep (w .st .sdpcm) left s) w
 unfolding unroll statusRead readStep pollTree pollOp secretly asking Kp
@@ -76,7 +79,7 @@ got-is : (n : ℕ) (w : World) → unroll (gotPacket n w) ≡ pollShown (arrived
 unfolding unroll gotPacket readIn arrivedStep arrivalOf pollTree
 got-is n w = by (eqb (sizeIn (w .buf)) 0 && eqb (complementIn (w .buf)) 0)
   where
-    by : (b : Bool) → unroll (pick b (ret SdpcmPacket.None (marked false w)) (readIn (processRx n (w .buf) (marked true w .st .sdpcm)) (marked true w))) ≡ pollShown (pick b (step (setMark (w .st .sdpcm) false) (PollNext.Got SdpcmPacket.None)) (receivedStep (processRx n (w .buf) (setMark (w .st .sdpcm) true)))) w
+    by : (b : Bool) → unroll (pick b (ret SdpcmPacket.None (marked false w)) (note (Note.advanced (advance (w .buf) (w .st .sdpcm))) (readIn (processRx n (w .buf) (marked true w .st .sdpcm)) (marked true w)))) ≡ pollShown (pick b (step (setMark (w .st .sdpcm) false) (PollNext.Got SdpcmPacket.None)) (receivedStep (processRx n (w .buf) (setMark (w .st .sdpcm) true)))) w
     by true = refl
     by false = received-is (processRx n (w .buf) (setMark (w .st .sdpcm) true) .sdpcm) (processRx n (w .buf) (setMark (w .st .sdpcm) true) .received) w
 
@@ -96,7 +99,7 @@ poll-is (PollPoint.Acknowledge i) (fault p) w h = refl
 poll-is (PollPoint.Acknowledge i) (val v T) w h = acknowledged-is i w
 poll-is (PollPoint.Status left) (fault p) w h = refl
 poll-is (PollPoint.Status left) (val v T) w h = rw (small32 v h) (read-is left v w)
-poll-is (PollPoint.Waited left) (fault p) w h = ?f
+poll-is (PollPoint.Waited left) (fault p) w h = absurd h
 poll-is (PollPoint.Waited left) (val v T) w h = waited-is left w
 poll-is PollPoint.FrameControl (fault p) w h = refl
 poll-is PollPoint.FrameControl (val v T) w h = refl

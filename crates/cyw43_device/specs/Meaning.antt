@@ -74,7 +74,7 @@ landing (BusOp.WriteInterrupt v) x b = b
 landing BusOp.FrameControl x b = b
 landing (BusOp.Wait ns) x b = b
 
--- the answers' numbers are as wide as what is read
+-- an answer's number is as wide as what is read, and a wait has no fault
 unfoldable pub InRange : BusOp → Ans → Type 0
 InRange BusOp.ReadInterrupt (fault p) = Unit {0}
 InRange BusOp.ReadInterrupt (val v T) = v < 65536
@@ -86,7 +86,8 @@ InRange BusOp.ReadTick x = Unit {0}
 InRange (BusOp.WritePacket n) x = Unit {0}
 InRange (BusOp.WriteInterrupt v) x = Unit {0}
 InRange BusOp.FrameControl x = Unit {0}
-InRange (BusOp.Wait ns) x = Unit {0}
+InRange (BusOp.Wait ns) (fault p) = ⊥
+InRange (BusOp.Wait ns) (val v T) = Unit {0}
 
 -- ---- a packet that came
 
@@ -128,7 +129,7 @@ arrivalAt (BusOp.Wait ns) b s = arrivalOf 0 [] s
 unfoldable pub Kp : PollPoint → Ans → M SdpcmPacket
 Kp PollPoint.Interrupt x w = bind (valued x w) interruptRead
 Kp (PollPoint.Acknowledge i) x w =
-    bind (bind (valued x w) (λ n u. ret tt u)) (λ u v. pick (eqb (bitAnd i 0x20) 0) (ret SdpcmPacket.None v) (statusReads 1000 v))
+    bind {A = Unit {0}} (bind (valued x w) (λ n u. ret tt u)) (λ u v. pick (eqb (bitAnd i 0x20) 0) (ret SdpcmPacket.None v) (statusReads 1000 v))
 Kp (PollPoint.Status left) x w = bind (valued x w) (statusRead (statusReads left))
 Kp (PollPoint.Waited left) x w = statusReads left w
 Kp PollPoint.FrameControl x w = bind (valued x w) (λ n v. ret SdpcmPacket.None (marked false v))
