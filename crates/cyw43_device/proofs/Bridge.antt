@@ -9,6 +9,7 @@ use lib.Dec.{eqb, eqb·suc-zero}
 use Rattle.slices.specs.Pick.{pick}
 use Rattle.cyw43_types.specs.State.{withSdpcm, setMark}
 use Rattle.cyw43_types.specs.declared.bus.BusOp.{BusOp}
+use Rattle.cyw43_types.specs.declared.sdpcm.AsyncEvent.{AsyncEvent}
 use Rattle.cyw43_types.specs.declared.sdpcm.Received.{Received}
 use Rattle.cyw43_types.specs.declared.sdpcm.Sdpcm.{Sdpcm}
 use Rattle.cyw43_types.specs.declared.sdpcm.SdpcmPacket.{SdpcmPacket}
@@ -23,7 +24,7 @@ use Rattle.cyw43_device.specs.declared.Arrival.{Arrival}
 use Rattle.cyw43_device.specs.declared.PollNext.{PollNext}
 use Rattle.cyw43_device.specs.declared.PollStep.{PollStep}
 use Rattle.cyw43_device.specs.Poll.{pollOp, step, pollStart, acknowledged, interruptStep, statusStep, readStep, waited, gotStep, receivedStep, arrivedStep, valuedStep, pollAnswer}
-use Rattle.cyw43_device.specs.Meaning.{secretly, opIn, asking, told, landing, InRange, arrivalOf, arrivalAt, Kp, pollTree, pollShown, landedWorld, pollStepAt}
+use Rattle.cyw43_device.specs.Meaning.{secretly, opIn, asking, told, landing, InRange, arrivalOf, receivedEvent, packetEvent, arrivalAt, Kp, pollTree, pollShown, landedWorld, pollStepAt, Tells}
 
 -- 0x20 is tested, and the status read
 acknowledged-is : (i : ℕ) (w : World) → unroll (pick (eqb (bitAnd i 0x20) 0) (ret SdpcmPacket.None w) (statusReads 1000 w)) ≡ pollShown (acknowledged (w .st .sdpcm) i) w
@@ -114,3 +115,35 @@ start-is w = by (hadPacket (w .st))
     by : (b : Bool) → ask (pick b Op.readStatus Op.readInterrupt) (λ x. pick b (bind (valued x w) (statusRead (statusReads 999))) (bind (valued x w) interruptRead)) ≡ pollTree (PollNext.Ask (pick b (PollPoint.Status 999) PollPoint.Interrupt)) w
     by true = refl
     by false = refl
+
+-- ---- the event of a packet that came
+
+tells-got : (s : Sdpcm) (r : Received) (b : Bytes) → Tells b (receivedEvent r b) (gotStep s r .next)
+unfolding Tells receivedEvent packetEvent gotStep
+tells-got s (Received.Packet SdpcmPacket.None) b = tt
+tells-got s (Received.Packet (SdpcmPacket.Control o l t)) b = tt
+tells-got s (Received.Packet (SdpcmPacket.AsyncEvent o l)) b = refl
+tells-got s (Received.Packet (SdpcmPacket.Data o l i)) b = tt
+tells-got s Received.HeaderBeyond b = tt
+
+-- a test whose sides tell
+tells-pick : (c : Bool) (b : Bytes) (e : AsyncEvent) (s t : PollStep) → Tells b e (s .next) → Tells b e (t .next) → Tells b e (pick c s t .next)
+tells-pick true b e s t h g = h
+tells-pick false b e s t h g = g
+
+tells-valued : (p : PollPoint) (v : ℕ) (s : Sdpcm) (b : Bytes) → Tells b (arrivalAt (pollOp p) b s .event) (valuedStep s p v (arrivalAt (pollOp p) b s) .next)
+unfolding Tells pollOp arrivalAt arrivalOf valuedStep interruptStep acknowledged statusStep readStep waited arrivedStep
+tells-valued PollPoint.Interrupt v s b = tells-pick (eqb (v % 65536) 0) b _ _ _ (tells-pick (eqb (bitAnd (v % 65536) 0x20) 0) b _ _ _ tt tt) tt
+tells-valued (PollPoint.Acknowledge i) v s b = tells-pick (eqb (bitAnd i 0x20) 0) b _ _ _ tt tt
+tells-valued (PollPoint.Status left) v s b =
+    tells-pick (eqb (v % 4294967296) 0xffffffff) b _ _ _ tt
+    (tells-pick (eqb (bitAnd (v % 4294967296) 0x100) 0) b _ _ _ tt (tells-pick (unreadable (v % 4294967296)) b _ _ _ tt tt))
+tells-valued (PollPoint.Waited left) v s b = tells-pick (eqb left 0) b _ _ _ tt tt
+tells-valued PollPoint.FrameControl v s b = tt
+tells-valued (PollPoint.Packet n) v s b =
+    tells-pick (eqb (sizeIn b) 0 && eqb (complementIn b) 0) b _ _ _ tt (tells-got (processRx n b (setMark s true) .sdpcm) (processRx n b (setMark s true) .received) b)
+
+pub poll-tells : (p : PollPoint) (x : Ans) (w : World) → Tells (landing (pollOp p) x (w .buf)) (arrivalAt (pollOp p) (landing (pollOp p) x (w .buf)) (w .st .sdpcm) .event) (pollStepAt p x w .next)
+unfolding Tells told pollAnswer
+poll-tells p (fault x) w = tt
+poll-tells p (val v T) w = tells-valued p v (w .st .sdpcm) (landing (pollOp p) (val v T) (w .buf))

@@ -1,4 +1,5 @@
 -- What passes by value between the control and the work buffer, and the tree that each point of a poll stands for.
+use mathlib.Core.Path.{_≡_}
 use Prim.Native.Nat.{ℕ, _<_}
 use mathlib.Core.Bool.{Bool, true, false, _&&_}
 use mathlib.Core.List.{List, []}
@@ -150,3 +151,12 @@ landedWorld q x w = withBuf w (landing q x (w .buf))
 
 abbrev pub pollStepAt : PollPoint → Ans → World → PollStep
 pollStepAt p x w = pollAnswer (w .st .sdpcm) p (told x) (arrivalAt (pollOp p) (landing (pollOp p) x (w .buf)) (w .st .sdpcm))
+
+-- where a poll brought an event, the event that was read of it is e
+unfoldable pub Tells : Bytes → AsyncEvent → PollNext → Type 0
+Tells b e (PollNext.Ask p) = Unit {0}
+Tells b e (PollNext.Got SdpcmPacket.None) = Unit {0}
+Tells b e (PollNext.Got (SdpcmPacket.Control offset len status)) = Unit {0}
+Tells b e (PollNext.Got (SdpcmPacket.AsyncEvent offset len)) = e ≡ eventOf (drop offset b) len
+Tells b e (PollNext.Got (SdpcmPacket.Data offset len interface)) = Unit {0}
+Tells b e (PollNext.Refused x) = Unit {0}

@@ -1,0 +1,38 @@
+// What an event does to the state.
+ghost use mathlib.Core.Path.{_≡_};
+ghost use Rattle.cyw43_events.specs.Handle.{stateAfter, handledOf};
+
+use crate::link::link_after;
+use crate::scan::scan_after;
+use cyw43_types::sdpcm::AsyncEvent;
+use cyw43_types::state::{State, with_link, with_scan};
+
+// The state, and whether the scan list is to hear the event.
+pub struct Handled {
+    pub st: State,
+    pub heard: bool,
+}
+
+fn state_after(e: AsyncEvent, st: State) -> State
+    ensures { λ r. ⌜ r ≡ stateAfter e st ⌝ }
+{
+    let marks = st.scan;
+    let link = st.link;
+    with_link(with_scan(st, scan_after(e, marks)), link_after(e, link))
+}
+
+// An event of a declared length; below 48 bytes it is ignored.
+pub fn handle_async_event(st: State, len: u16, e: AsyncEvent) -> Handled
+    ensures { λ r. ⌜ r ≡ handledOf st len e ⌝ }
+{
+    if len < 48 {
+        return Handled {
+            st: st,
+            heard: false,
+        };
+    }
+    Handled {
+        st: state_after(e, st),
+        heard: true,
+    }
+}
