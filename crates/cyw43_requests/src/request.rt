@@ -171,7 +171,7 @@ pub fn payload_len(r: Request, first: &[u8], second: &[u8]) -> usize
     }
 }
 
-pub fn one_of(n: u32, list: &[u32]) -> bool
+fn one_of(n: u32, list: &[u32]) -> bool
     ensures { λ r. ⌜ r ≡ oneOf n (now (list .entry)) ⌝ }
 {
     let mut i = 0;
