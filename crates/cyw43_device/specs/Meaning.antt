@@ -109,7 +109,7 @@ arrivalOf n b s =
     record {
       blank = eqb (sizeIn b) 0 && eqb (complementIn b) 0;
       rx = processRx n b (setMark s true);
-      event = receivedEvent (processRx n b (setMark s true) .received) b
+      event = receivedEvent (processRx n b (setMark s true) .received) b;
     }
 
 -- after any other operation nothing of it is looked at

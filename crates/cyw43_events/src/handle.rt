@@ -1,11 +1,12 @@
 // What an event does to the state.
 ghost use mathlib.Core.Path.{_≡_};
 ghost use Rattle.cyw43_events.specs.Handle.{stateAfter, handledOf};
-
 use crate::link::link_after;
 use crate::scan::scan_after;
 use cyw43_types::sdpcm::AsyncEvent;
-use cyw43_types::state::{State, with_link, with_scan};
+use cyw43_types::state::State;
+use cyw43_types::state::with_link;
+use cyw43_types::state::with_scan;
 
 // The state, and whether the scan list is to hear the event.
 pub struct Handled {

@@ -2,16 +2,27 @@
 ghost use mathlib.Core.Path.{_≡_};
 ghost use Rattle.cyw43_definition.specs.Send.{elapsed, free};
 ghost use Rattle.cyw43_send.specs.Send as to;
-
-use cyw43_device::{Arrival, PollNext, PollPoint, poll_answer, poll_op, poll_start};
+use cyw43_device::Arrival;
+use cyw43_device::PollNext;
+use cyw43_device::PollPoint;
+use cyw43_device::poll_answer;
+use cyw43_device::poll_op;
+use cyw43_device::poll_start;
 use cyw43_events::handle::handle_async_event;
 use cyw43_sdpcm::header::next_seq;
 use cyw43_sdpcm::status::f2_ready;
-use cyw43_types::bus::{BusAnswer, BusOp};
+use cyw43_types::bus::BusAnswer;
+use cyw43_types::bus::BusOp;
 use cyw43_types::outcome::DriverError;
-use cyw43_types::pending::{PendingBuf, PendingIoctlResp, PendingResp};
-use cyw43_types::sdpcm::{AsyncEvent, SdpcmPacket};
-use cyw43_types::state::{State, set_reply, with_pending, with_sdpcm};
+use cyw43_types::pending::PendingBuf;
+use cyw43_types::pending::PendingIoctlResp;
+use cyw43_types::pending::PendingResp;
+use cyw43_types::sdpcm::AsyncEvent;
+use cyw43_types::sdpcm::SdpcmPacket;
+use cyw43_types::state::State;
+use cyw43_types::state::set_reply;
+use cyw43_types::state::with_pending;
+use cyw43_types::state::with_sdpcm;
 
 // The packet that is sent.
 pub struct OutPacket {
@@ -189,13 +200,7 @@ pub fn store_reply(st: State, offset: u16, len: u16, status: i32) -> State
 }
 
 // A stall's poll brought a packet.
-fn stall_packet(
-    st: State,
-    out: OutPacket,
-    t0: u64,
-    e: AsyncEvent,
-    p: SdpcmPacket,
-) -> SendStep
+fn stall_packet(st: State, out: OutPacket, t0: u64, e: AsyncEvent, p: SdpcmPacket) -> SendStep
     ensures { λ r. ⌜ r ≡ to.packetStep st out t0 e p ⌝ }
 {
     match p {
@@ -218,13 +223,7 @@ fn stall_packet(
     }
 }
 
-fn stall_next(
-    st: State,
-    out: OutPacket,
-    t0: u64,
-    e: AsyncEvent,
-    n: PollNext,
-) -> SendStep
+fn stall_next(st: State, out: OutPacket, t0: u64, e: AsyncEvent, n: PollNext) -> SendStep
     ensures { λ r. ⌜ r ≡ to.stallNext st out t0 e n ⌝ }
 {
     match n {
@@ -280,13 +279,7 @@ fn at_late(st: State, t0: u64, x: BusAnswer) -> SendStep
     }
 }
 
-fn stall_answer(
-    st: State,
-    out: OutPacket,
-    p: StallPoint,
-    x: BusAnswer,
-    a: Arrival,
-) -> SendStep
+fn stall_answer(st: State, out: OutPacket, p: StallPoint, x: BusAnswer, a: Arrival) -> SendStep
     ensures { λ r. ⌜ r ≡ to.stallAnswer st out p x a ⌝ }
 {
     match p {
@@ -327,13 +320,7 @@ fn at_writing(st: State, x: BusAnswer) -> SendStep
     }
 }
 
-pub fn send_answer(
-    st: State,
-    out: OutPacket,
-    p: SendPoint,
-    x: BusAnswer,
-    a: Arrival,
-) -> SendStep
+pub fn send_answer(st: State, out: OutPacket, p: SendPoint, x: BusAnswer, a: Arrival) -> SendStep
     ensures { λ r. ⌜ r ≡ to.sendAnswer st out p x a ⌝ }
 {
     match p {
