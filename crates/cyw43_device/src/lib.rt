@@ -2,11 +2,18 @@
 // came is handed in by value.
 ghost use mathlib.Core.Path.{_≡_};
 ghost use Rattle.cyw43_device.specs.Poll as to;
-
-use cyw43_sdpcm::status::{f2_available, has_packet, pending, unreadable};
-use cyw43_types::bus::{BusAnswer, BusOp};
+use cyw43_sdpcm::status::f2_available;
+use cyw43_sdpcm::status::has_packet;
+use cyw43_sdpcm::status::pending;
+use cyw43_sdpcm::status::unreadable;
+use cyw43_types::bus::BusAnswer;
+use cyw43_types::bus::BusOp;
 use cyw43_types::outcome::DriverError;
-use cyw43_types::sdpcm::{AsyncEvent, Received, RxPacket, Sdpcm, SdpcmPacket};
+use cyw43_types::sdpcm::AsyncEvent;
+use cyw43_types::sdpcm::Received;
+use cyw43_types::sdpcm::RxPacket;
+use cyw43_types::sdpcm::Sdpcm;
+use cyw43_types::sdpcm::SdpcmPacket;
 use cyw43_types::state::set_mark;
 
 pub enum PollPoint {
@@ -155,9 +162,7 @@ fn valued(s: Sdpcm, p: PollPoint, v: u64, a: Arrival) -> PollStep
         PollPoint::Acknowledge(i) => acknowledged(s, i),
         PollPoint::Status(left) => status_read(s, left, (v % 4294967296) as u32),
         PollPoint::Waited(left) => waited(s, left),
-        PollPoint::FrameControl => {
-            step(set_mark(s, false), PollNext::Got(SdpcmPacket::None))
-        }
+        PollPoint::FrameControl => { step(set_mark(s, false), PollNext::Got(SdpcmPacket::None)) }
         PollPoint::Packet(_) => arrived(s, a),
     }
 }
