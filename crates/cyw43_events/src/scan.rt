@@ -60,15 +60,15 @@ pub fn known(records: [ScanRecord; 32], n: usize, r: ScanRecord) -> bool
 pub fn heard(l: ScanList, r: ScanRecord) -> ScanList
     ensures { λ x. ⌜ x ≡ heard l r ⌝ }
 {
-    let n = l.count;
+    let count = l.count;
     let records = l.records;
-    if known(records, n, r) {
+    if known(records, count, r) {
         return l;
     }
-    if n < 32 {
+    if count < 32 {
         let mut t = l;
-        t.records[n] = r;
-        t.count = n + 1;
+        t.records[count] = r;
+        t.count = count + 1;
         return t;
     }
     l

@@ -1,9 +1,10 @@
 -- The definitions of `Packet`, case by case: what each `return` cites.
-use Prim.Native.Nat.{ℕ, _+_, _*_, _-_, _/_, _≤_, _<_}
+use Prim.Native.Nat.{ℕ, _+_, _*_, _-_, _/_, _%_, _≤_, _<_}
 use mathlib.Core.Path.{_≡_, _∙_}
 use mathlib.Core.Bool.{true, false}
 use mathlib.Core.List.{[], _∷_, _++_}
 use native.Mathlib.Omega.{arith}
+use lib.Bits.{bitAnd, and-high}
 use lib.Dec.{leb, eqb}
 use lib.ListN.{take, getD}
 use lib.IntN.{ℤ}
@@ -111,3 +112,7 @@ header-is d e f g size seq channel h p q r s =
 pub data-part-is : (d e f : Bytes) (interface : ℕ) (frame : Bytes) → e ≡ over d 12 (0 ∷ 0 ∷ 32 ∷ 0 ∷ interface ∷ 0 ∷ []) → f ≡ over e 18 frame → f ≡ over d 12 (dataPart interface frame)
 unfolding dataPart
 data-part-is d e f interface frame p q = q ∙ rw (p, over-append d 12 (0 ∷ 0 ∷ 32 ∷ 0 ∷ interface ∷ 0 ∷ []))
+
+-- the status word's bits 9 to 19
+pub bits-9-to-19 : (s : ℕ) → bitAnd s 1048064 ≡ (s / 512 % 2048) * 512
+bits-9-to-19 s = and-high s 11 9

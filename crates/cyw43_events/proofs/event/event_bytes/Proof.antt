@@ -20,10 +20,10 @@ copy-over-requires : tie.Need-copy-over-requires
 copy-over-requires c κs = search needs
 
 returns : tie.Need-returns
-returns c = c .before .copy-over .ensures ∙ event-is (c .before .before .before .before .before .before .before .args .part .now) (c .before .before .before .before .before .before .before .args .len) (c .before .before .before .before .before .smaller .result) (search needs) (search needs)
+returns c = let a = c .before .before .before .before .before .before .before .args in c .before .copy-over .ensures ∙ event-is (a .part .now) (a .len) (c .before .before .before .before .before .smaller .result) (search needs) (search needs)
 
 returns-2 : tie.Need-returns-2
-returns-2 c = event-short (c .before .before .before .args .part .now) (c .before .before .before .args .len) (c .before .smaller .result) (search needs) (search needs)
+returns-2 c = let a = c .before .before .before .args in event-short (a .part .now) (a .len) (c .before .smaller .result) (search needs) (search needs)
 
 pub event-bytes-spec : {M : Type 1} → statement M
 event-bytes-spec =

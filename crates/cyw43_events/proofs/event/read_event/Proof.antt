@@ -34,7 +34,9 @@ get-be32-requires-3 : tie.Need-get-be32-requires-3
 get-be32-requires-3 c κs = search needs
 
 returns : tie.Need-returns
-returns c = event-of-is (c .before .before .before .before .before .before .before .before .before .before .before .args .part .now) (c .before .before .before .before .before .before .before .before .before .event-bytes .result) (c .before .before .before .before .before .before .before .before .before .before .before .args .len) _ _ _ _ _ (c .before .before .before .before .before .before .before .before .before .event-bytes .ensures) (c .before .before .before .before .before .before .get-be16 .ensures) (c .before .before .before .before .get-be32 .ensures) (c .before .before .get-be322 .ensures) (c .get-be323 .ensures) (c .before .before .before .before .before .before .before .before .scan-result .ensures)
+returns c =
+    let a = c .before .before .before .before .before .before .before .before .before .before .before .args in
+    event-of-is (a .part .now) (c .before .before .before .before .before .before .before .before .before .event-bytes .result) (a .len) _ _ _ _ _ (c .before .before .before .before .before .before .before .before .before .event-bytes .ensures) (c .before .before .before .before .before .before .get-be16 .ensures) (c .before .before .before .before .get-be32 .ensures) (c .before .before .get-be322 .ensures) (c .get-be323 .ensures) (c .before .before .before .before .before .before .before .before .scan-result .ensures)
 
 pub read-event-spec : {M : Type 1} → statement M
 read-event-spec =

@@ -1,7 +1,8 @@
 use borrow.Author.Needs.{needs}
-use mathlib.Core.Path.{_≡_, _∙_}
+use mathlib.Core.Path.{_≡_, _∙_, ap}
 use mir.Syntax.{w16}
 use mir.Val.{toZ, ofZ}
+use Rattle.slices.specs.Le.{signed16}
 use Rattle.cyw43_events.proofs.Laws.{scan-is}
 use Rattle.cyw43_events.proofs.event.scan_result.Statement.{statement}
 use Rattle.cyw43_events.proofs.event.scan_result.Tie as tie
@@ -34,7 +35,7 @@ returns : tie.Need-returns
 returns c =
     let z = c .signed16 .result in
     let e : toZ w16 (ofZ w16 z) ≡ z = search needs in
-    scan-is (c .before .before .before .before .before .before .args .t1) _ _ _ _ (c .before .before .before .before .before .ssid-length .ensures) (c .before .before .before .before .ssid-in .ensures) (c .before .before .before .bssid-in .ensures) (e ∙ (cc))
+    scan-is (c .before .before .before .before .before .before .args .t1) _ _ _ _ (c .before .before .before .before .before .ssid-length .ensures) (c .before .before .before .before .ssid-in .ensures) (c .before .before .before .bssid-in .ensures) (e ∙ c .signed16 .ensures ∙ ap signed16 (c .before .get-le16 .ensures))
 
 pub scan-result-spec : {M : Type 1} → statement M
 scan-result-spec =

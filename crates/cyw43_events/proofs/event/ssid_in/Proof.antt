@@ -25,7 +25,7 @@ copy-over-requires : tie.Need-copy-over-requires
 copy-over-requires c κs = search needs
 
 returns : tie.Need-returns
-returns c = c .before .copy-over .ensures ∙ ssid-is (c .before .before .before .before .before .args .t1) (c .before .before .before .before .before .args .n) (79 + c .before .before .before .before .before .args .n - 79) (omega arith) (c .before .before .before .before .before .pre) (omega arith)
+returns c = let a = c .before .before .before .before .before .args in c .before .copy-over .ensures ∙ ssid-is (a .t1) (a .n) (79 + a .n - 79) (omega arith) (c .before .before .before .before .before .pre) (omega arith)
 
 pub ssid-in-spec : {M : Type 1} → statement M
 ssid-in-spec =

@@ -58,11 +58,15 @@ returns-6 c = simp (c .before .match .keys6) (c .supplicant .ensures)
 
 returns-7 : tie.Need-returns-7
 unfolding linkAfter
-returns-7 c = simp (ne-eqb _ _ (c .before .before .before .match .rest .1), ne-eqb _ _ (c .before .before .before .match .rest .0 .1), ne-eqb _ _ (c .before .before .before .match .rest .0 .0 .1), ne-eqb _ _ (c .before .before .before .match .rest .0 .0 .0 .1), ne-eqb _ _ (c .before .before .before .match .rest .0 .0 .0 .0 .1), ne-eqb _ _ (c .before .before .before .match .rest .0 .0 .0 .0 .0 .1), sym (c .before .before .is-deauthentication .ensures) ∙ c .before .if1 .taken) (c .deauthenticated .ensures)
+returns-7 c =
+    let m = c .before .before .before .match .rest in
+    simp (ne-eqb _ _ (m .1), ne-eqb _ _ (m .0 .1), ne-eqb _ _ (m .0 .0 .1), ne-eqb _ _ (m .0 .0 .0 .1), ne-eqb _ _ (m .0 .0 .0 .0 .1), ne-eqb _ _ (m .0 .0 .0 .0 .0 .1), sym (c .before .before .is-deauthentication .ensures) ∙ c .before .if1 .taken) (c .deauthenticated .ensures)
 
 returns-8 : tie.Need-returns-8
 unfolding linkAfter
-returns-8 c = simp (ne-eqb _ _ (c .before .before .match .rest .1), ne-eqb _ _ (c .before .before .match .rest .0 .1), ne-eqb _ _ (c .before .before .match .rest .0 .0 .1), ne-eqb _ _ (c .before .before .match .rest .0 .0 .0 .1), ne-eqb _ _ (c .before .before .match .rest .0 .0 .0 .0 .1), ne-eqb _ _ (c .before .before .match .rest .0 .0 .0 .0 .0 .1), sym (c .before .is-deauthentication .ensures) ∙ c .if1 .left)
+returns-8 c =
+    let m = c .before .before .match .rest in
+    simp (ne-eqb _ _ (m .1), ne-eqb _ _ (m .0 .1), ne-eqb _ _ (m .0 .0 .1), ne-eqb _ _ (m .0 .0 .0 .1), ne-eqb _ _ (m .0 .0 .0 .0 .1), ne-eqb _ _ (m .0 .0 .0 .0 .0 .1), sym (c .before .is-deauthentication .ensures) ∙ c .if1 .left)
 
 pub link-after-spec : {M : Type 1} → statement M
 link-after-spec =

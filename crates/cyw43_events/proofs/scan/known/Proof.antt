@@ -34,7 +34,10 @@ same-network-requires : tie.Need-same-network-requires Inv-loop μ-loop
 same-network-requires c κs = search needs
 
 returns : tie.Need-returns Inv-loop μ-loop
-returns c = sym (c .before .before .before .before .loop .inv .1 ∙ known-here (c .before .before .before .before .before .before .args .t1) (c .before .before .before .before .before .before .args .r) (c .before .before .before .before .before .before .args .n) (c .before .before .before .before .loop .i) _ (omega (arith, size (c .before .before .before .before .before .before))) (sym (c .before .same-network .ensures) ∙ c .if1 .taken))
+returns c =
+    let s = c .before .before .before .before .before .before in
+    let l = c .before .before .before .before .loop in
+    sym (l .inv .1 ∙ known-here (s .args .t1) (s .args .r) (s .args .n) (l .i) _ (omega (arith, size s)) (sym (c .before .same-network .ensures) ∙ c .if1 .taken))
 
 add-i : tie.Need-add-i Inv-loop μ-loop
 add-i c = search needs
@@ -43,10 +46,16 @@ loop-less : tie.Need-loop-less Inv-loop μ-loop
 loop-less c = search needs
 
 loop-again : tie.Need-loop-again Inv-loop μ-loop
-loop-again c = (search needs, c .before .before .before .before .loop .inv .1 ∙ known-next (c .before .before .before .before .before .before .args .t1) (c .before .before .before .before .before .before .args .r) (c .before .before .before .before .before .before .args .n) (c .before .before .before .before .loop .i) _ (omega (arith, size (c .before .before .before .before .before .before))) (sym (c .before .same-network .ensures) ∙ c .if1 .left))
+loop-again c =
+    let s = c .before .before .before .before .before .before in
+    let l = c .before .before .before .before .loop in
+    (search needs, l .inv .1 ∙ known-next (s .args .t1) (s .args .r) (s .args .n) (l .i) _ (omega (arith, size s)) (sym (c .before .same-network .ensures) ∙ c .if1 .left))
 
 returns-2 : tie.Need-returns-2 Inv-loop μ-loop
-returns-2 c = sym (c .before .loop .inv .1 ∙ known-end (c .before .before .before .args .t1) (c .before .before .before .args .r) (c .before .before .before .args .n) (c .before .loop .i) (omega (arith, size (c .before .before .before))))
+returns-2 c =
+    let s = c .before .before .before in
+    let l = c .before .loop in
+    sym (l .inv .1 ∙ known-end (s .args .t1) (s .args .r) (s .args .n) (l .i) (omega (arith, size s)))
 
 pub known-spec : {M : Type 1} → statement M
 known-spec =

@@ -24,7 +24,10 @@ array-read-if1-2 : tie.Need-array-read-if1-2 Inv-loop μ-loop
 array-read-if1-2 c = search needs
 
 returns : tie.Need-returns Inv-loop μ-loop
-returns c = sym (c .before .before .loop .inv .1 ∙ same-not (c .before .before .before .args .t1) (c .before .before .before .args .t2) (c .before .before .loop .i) (omega arith) (omega arith) (c .if1 .taken))
+returns c =
+    let a = c .before .before .before .args in
+    let l = c .before .before .loop in
+    sym (l .inv .1 ∙ same-not (a .t1) (a .t2) (l .i) (omega arith) (omega arith) (c .if1 .taken))
 
 add-i : tie.Need-add-i Inv-loop μ-loop
 add-i c = search needs
@@ -33,10 +36,16 @@ loop-less : tie.Need-loop-less Inv-loop μ-loop
 loop-less c = search needs
 
 loop-again : tie.Need-loop-again Inv-loop μ-loop
-loop-again c = (search needs, c .before .before .loop .inv .1 ∙ same-next (c .before .before .before .args .t1) (c .before .before .before .args .t2) (c .before .before .loop .i) (omega arith) (omega arith) (c .if1 .left))
+loop-again c =
+    let a = c .before .before .before .args in
+    let l = c .before .before .loop in
+    (search needs, l .inv .1 ∙ same-next (a .t1) (a .t2) (l .i) (omega arith) (omega arith) (c .if1 .left))
 
 returns-2 : tie.Need-returns-2 Inv-loop μ-loop
-returns-2 c = sym (c .before .loop .inv .1 ∙ same-end (c .before .before .args .t1) (c .before .before .args .t2) (c .before .loop .i) (omega arith) (omega arith))
+returns-2 c =
+    let a = c .before .before .args in
+    let l = c .before .loop in
+    sym (l .inv .1 ∙ same-end (a .t1) (a .t2) (l .i) (omega arith) (omega arith))
 
 pub same-bytes-spec : {M : Type 1} → statement M
 same-bytes-spec =

@@ -20,10 +20,14 @@ set-credit-requires : tie.Need-set-credit-requires
 set-credit-requires c κs = search needs
 
 returns : tie.Need-returns
-returns c = accepted-is (c .before .before .before .before .before .before .before .args .buf .now) (c .before .before .before .before .before .before .before .args .s) _ _ _ _ (sym (c .before .before .before .credits .ensures) ∙ c .before .before .if1 .taken) (c .before .before .before .before .before .byte-at .ensures) (c .before .before .before .before .set-flow .ensures) (c .before .byte-at2 .ensures) (c .set-credit .ensures)
+returns c =
+    let a = c .before .before .before .before .before .before .before .args in
+    accepted-is (a .buf .now) (a .s) _ _ _ _ (sym (c .before .before .before .credits .ensures) ∙ c .before .before .if1 .taken) (c .before .before .before .before .before .byte-at .ensures) (c .before .before .before .before .set-flow .ensures) (c .before .byte-at2 .ensures) (c .set-credit .ensures)
 
 returns-2 : tie.Need-returns-2
-returns-2 c = accepted-not (c .before .before .before .before .before .args .buf .now) (c .before .before .before .before .before .args .s) _ _ (sym (c .before .credits .ensures) ∙ c .if1 .left) (c .before .before .before .byte-at .ensures) (c .before .before .set-flow .ensures)
+returns-2 c =
+    let a = c .before .before .before .before .before .args in
+    accepted-not (a .buf .now) (a .s) _ _ (sym (c .before .credits .ensures) ∙ c .if1 .left) (c .before .before .before .byte-at .ensures) (c .before .before .set-flow .ensures)
 
 pub accepted-spec : {M : Type 1} → statement M
 accepted-spec =

@@ -1,7 +1,8 @@
 use borrow.Author.Needs.{needs}
-use mathlib.Core.Path.{_≡_, _∙_}
+use mathlib.Core.Path.{_≡_, _∙_, ap}
 use mir.Syntax.{w32}
 use mir.Val.{toZ, ofZ}
+use Rattle.slices.specs.Le.{signed32}
 use Rattle.cyw43_sdpcm.proofs.Laws.{control-short, control-is, control-other}
 use Rattle.cyw43_sdpcm.proofs.rx.control_of.Statement.{statement}
 use Rattle.cyw43_sdpcm.proofs.rx.control_of.Tie as tie
@@ -10,7 +11,7 @@ add-if1 : tie.Need-add-if1
 add-if1 c = search needs
 
 returns : tie.Need-returns
-returns c = control-short (c .before .before .args .buf .now) (c .before .before .args .size) (c .before .before .args .h) (c .before .before .args .id) (search needs)
+returns c = let a = c .before .before .args in control-short (a .buf .now) (a .size) (a .h) (a .id) (search needs)
 
 add-get-le32 : tie.Need-add-get-le32
 add-get-le32 c = search needs
@@ -19,7 +20,7 @@ get-le32-requires : tie.Need-get-le32-requires
 get-le32-requires c κs = search needs
 
 returns-2 : tie.Need-returns-2
-returns-2 c = control-other (c .before .before .before .before .args .buf .now) (c .before .before .before .before .args .size) (c .before .before .before .before .args .h) (c .before .before .before .before .args .id) (search needs) (search needs)
+returns-2 c = let a = c .before .before .before .before .args in control-other (a .buf .now) (a .size) (a .h) (a .id) (search needs) (search needs)
 
 add-t7 : tie.Need-add-t7
 add-t7 c = search needs
@@ -41,9 +42,10 @@ signed32-requires c κs = search needs
 
 returns-3 : tie.Need-returns-3
 returns-3 c =
+    let a = c .before .before .before .before .before .before .args in
     let z = c .signed32 .result in
     let e : toZ w32 (ofZ w32 z) ≡ z = search needs in
-    control-is (c .before .before .before .before .before .before .args .buf .now) (c .before .before .before .before .before .before .args .size) (c .before .before .before .before .before .before .args .h) (c .before .before .before .before .before .before .args .id) _ (search needs) (search needs) (e ∙ (cc))
+    control-is (a .buf .now) (a .size) (a .h) (a .id) _ (search needs) (search needs) (e ∙ c .signed32 .ensures ∙ ap signed32 (c .before .get-le322 .ensures))
 
 pub control-of-spec : {M : Type 1} → statement M
 control-of-spec =

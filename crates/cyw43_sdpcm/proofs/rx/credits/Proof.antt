@@ -7,7 +7,7 @@ channel-in-requires : tie.Need-channel-in-requires
 channel-in-requires c κs = search needs
 
 returns : tie.Need-returns
-returns c = credits-not (c .before .before .before .args .buf .now) (c .before .before .before .args .s) (search needs)
+returns c = let a = c .before .before .before .args in credits-not (a .buf .now) (a .s) (search needs)
 
 byte-at-requires : tie.Need-byte-at-requires
 byte-at-requires c κs = search needs
@@ -16,7 +16,7 @@ credit-step-requires : tie.Need-credit-step-requires
 credit-step-requires c κs = search needs
 
 returns-2 : tie.Need-returns-2
-returns-2 c = credits-by (c .before .before .before .before .before .args .buf .now) (c .before .before .before .before .before .args .s) (c .credit-step .result) (search needs) (search needs)
+returns-2 c = let a = c .before .before .before .before .before .args in credits-by (a .buf .now) (a .s) (c .credit-step .result) (search needs) (search needs)
 
 pub credits-spec : {M : Type 1} → statement M
 credits-spec =

@@ -4,13 +4,13 @@ use Rattle.cyw43_sdpcm.proofs.rx.data_of.Statement.{statement}
 use Rattle.cyw43_sdpcm.proofs.rx.data_of.Tie as tie
 
 returns : tie.Need-returns
-returns c = data-small (c .before .before .args .buf .now) (c .before .before .args .size) (c .before .before .args .h) (search needs)
+returns c = let a = c .before .before .args in data-small (a .buf .now) (a .size) (a .h) (search needs)
 
 add-if2 : tie.Need-add-if2
 add-if2 c = search needs
 
 returns-2 : tie.Need-returns-2
-returns-2 c = data-header (c .before .before .before .args .buf .now) (c .before .before .before .args .size) (c .before .before .before .args .h) (search needs) (search needs)
+returns-2 c = let a = c .before .before .before .args in data-header (a .buf .now) (a .size) (a .h) (search needs) (search needs)
 
 add-byte-at : tie.Need-add-byte-at
 add-byte-at c = search needs
@@ -31,7 +31,7 @@ add-p-2 : tie.Need-add-p-2
 add-p-2 c = search needs
 
 returns-3 : tie.Need-returns-3
-returns-3 c = data-short (c .before .before .before .before .before .args .buf .now) (c .before .before .before .before .before .args .size) (c .before .before .before .before .before .args .h) (search needs) (search needs) (search needs)
+returns-3 c = let a = c .before .before .before .before .before .args in data-short (a .buf .now) (a .size) (a .h) (search needs) (search needs) (search needs)
 
 add-byte-at-2 : tie.Need-add-byte-at-2
 add-byte-at-2 c = search needs
@@ -43,7 +43,9 @@ interface-of-requires : tie.Need-interface-of-requires
 interface-of-requires c κs = search needs
 
 returns-4 : tie.Need-returns-4
-returns-4 c = data-is (c .before .before .before .before .before .before .before .args .buf .now) (c .before .before .before .before .before .before .before .args .size) (c .before .before .before .before .before .before .before .args .h) _ _ _ (search needs) (search needs) (search needs) (search needs) (search needs) (c .interface-of .ensures)
+returns-4 c =
+    let a = c .before .before .before .before .before .before .before .args in
+    data-is (a .buf .now) (a .size) (a .h) _ _ _ (search needs) (search needs) (search needs) (search needs) (search needs) (c .interface-of .ensures)
 
 pub data-of-spec : {M : Type 1} → statement M
 data-of-spec =

@@ -15,15 +15,15 @@ data-of-requires c κs = search needs
 
 returns : tie.Need-returns
 unfolding payloadOf
-returns c = simp (c .before .match .keys1) (cc)
+returns c = simp (c .before .match .keys1, c .control-of .ensures)
 
 returns-2 : tie.Need-returns-2
 unfolding payloadOf
-returns-2 c = simp (c .before .match .keys2) (cc)
+returns-2 c = simp (c .before .match .keys2) (c .event-at .ensures)
 
 returns-3 : tie.Need-returns-3
 unfolding payloadOf
-returns-3 c = simp (c .before .match .keys3) (cc)
+returns-3 c = simp (c .before .match .keys3, c .data-of .ensures)
 
 returns-4 : tie.Need-returns-4
 unfolding payloadOf

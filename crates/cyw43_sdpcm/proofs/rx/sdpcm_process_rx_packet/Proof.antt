@@ -23,10 +23,12 @@ payload-of-requires : tie.Need-payload-of-requires
 payload-of-requires c κs = search needs
 
 returns : tie.Need-returns
-returns c = process-is (c .before .before .before .before .before .before .before .before .args .came) (c .before .before .before .before .before .before .before .before .args .buf .now) (c .before .before .before .before .before .before .before .before .args .s) _ _ _ _ _ (sym (c .before .before .before .before .before .before .is-packet .ensures) ∙ c .before .before .before .before .before .if1 .taken) (c .before .before .before .before .accepted .ensures) (c .before .before .before .size-in .ensures) (c .before .before .channel-in .ensures) (c .before .byte-at .ensures) (c .payload-of .ensures)
+returns c =
+    let a = c .before .before .before .before .before .before .before .before .args in
+    process-is (a .came) (a .buf .now) (a .s) _ _ _ _ _ (sym (c .before .before .before .before .before .before .is-packet .ensures) ∙ c .before .before .before .before .before .if1 .taken) (c .before .before .before .before .accepted .ensures) (c .before .before .before .size-in .ensures) (c .before .before .channel-in .ensures) (c .before .byte-at .ensures) (c .payload-of .ensures)
 
 returns-2 : tie.Need-returns-2
-returns-2 c = process-not (c .before .before .before .args .came) (c .before .before .before .args .buf .now) (c .before .before .before .args .s) (sym (c .before .is-packet .ensures) ∙ c .if1 .left)
+returns-2 c = let a = c .before .before .before .args in process-not (a .came) (a .buf .now) (a .s) (sym (c .before .is-packet .ensures) ∙ c .if1 .left)
 
 pub sdpcm-process-rx-packet-spec : {M : Type 1} → statement M
 sdpcm-process-rx-packet-spec =

@@ -1,15 +1,13 @@
-use Prim.Native.Nat.{_*_, _/_, _%_}
-use mathlib.Core.Path.{_≡_}
 use native.Mathlib.Omega.{arith}
-use lib.Bits.{bitAnd, and-high}
+use Rattle.cyw43_sdpcm.proofs.Laws.{bits-9-to-19}
 use Rattle.cyw43_sdpcm.proofs.status.pending.Statement.{statement}
 use Rattle.cyw43_sdpcm.proofs.status.pending.Tie as tie
 
 cast-result : tie.Need-cast-result
-cast-result c = let e : bitAnd (c .args .status) 1048064 ≡ (c .args .status / 512 % 2048) * 512 = and-high (c .args .status) 11 9 in omega arith
+cast-result c = omega (arith, bits-9-to-19 (c .args .status))
 
 returns : tie.Need-returns
-returns c = let e : bitAnd (c .args .status) 1048064 ≡ (c .args .status / 512 % 2048) * 512 = and-high (c .args .status) 11 9 in omega arith
+returns c = omega (arith, bits-9-to-19 (c .args .status))
 
 pub pending-spec : {M : Type 1} → statement M
 pending-spec = tie.close (tie.spec cast-result returns)
