@@ -1,0 +1,5 @@
+pub mod Steps
+pub mod Stages
+pub mod Exchange
+pub mod Poll
+pub mod Begin
