@@ -5,7 +5,7 @@ ghost use mathlib.Core.List.{[], _∷_};
 ghost use Prim.Native.Nat.{_+_, _-_, _*_, _≤_, _<_, min};
 ghost use lib.ListN.{length, take, drop, replicate, getD};
 ghost use Rattle.slices.specs.Over.{over};
-ghost use Rattle.slices.specs.Le.{le16, le32, le16At, le32At, be16At, be32At, bytesOf, packed, wordsFor, signed16, signed32};
+ghost use Rattle.slices.specs.Le.{le16, le32, le16At, le32At, be16At, be32At, bytesOf, packed, signed16, signed32};
 
 // How many of n elements fit into len, from index at on.
 pub fn fitting(len: usize, at: usize, n: usize) -> usize
@@ -127,6 +127,14 @@ pub fn get_le32(s: &[u8], at: usize) -> u32
         + 16777216 * wide(byte_after(s, at, 3))
 }
 
+// The same where all four are there.
+fn get_whole(s: &[u8], at: usize) -> u32
+    requires { ⌜ at + 4 ≤ length (now s) ⌝ }
+    ensures { λ r. ⌜ r ≡ le32At (now (s .entry)) at ⌝ }
+{
+    wide(s[at]) + 256 * wide(s[at + 1]) + 65536 * wide(s[at + 2]) + 16777216 * wide(s[at + 3])
+}
+
 pub fn get_be16(s: &[u8], at: usize) -> u16
     ensures { λ r. ⌜ r ≡ be16At (now (s .entry)) at ⌝ }
 {
@@ -233,14 +241,35 @@ fn unpack_whole(dst: &mut [u8], words: &[u32], n: usize)
     }
 }
 
+// Puts w into log at index i.
+pub fn put_word(log: &mut [u32], i: usize, w: u32)
+    ensures { λ _. ⌜ now (log .exit) ≡ over (now (log .entry)) i (w ∷ []) ⌝ }
+{
+    if i < log.len() {
+        log[i] = w;
+    }
+}
+
 // Puts the bytes, packed into words, into log from index at on.
 pub fn pack(log: &mut [u32], at: usize, bytes: &[u8])
     ensures { λ _. ⌜ now (log .exit) ≡ over (now (log .entry)) at (packed (now (bytes .entry))) ⌝ }
 {
-    let m = fitting(log.len(), at, (bytes.len() + 3) / 4);
+    let n = fitting(log.len(), at, bytes.len() / 4);
+    pack_whole(log, at, bytes, n);
+    if 4 * n < bytes.len() {
+        put_word(log, at + n, get_le32(bytes, 4 * n));
+    }
+}
+
+// The same for n words, all of which are whole and fit.
+fn pack_whole(log: &mut [u32], at: usize, bytes: &[u8], n: usize)
+    requires { ⌜ n ≤ length (now log) - at ⌝ }
+    requires { ⌜ 4 * n ≤ length (now bytes) ⌝ }
+    ensures { λ _. ⌜ now (log .exit) ≡ over (now (log .entry)) at (take n (packed (now (bytes .entry)))) ⌝ }
+{
     let mut i = 0;
-    while i < m {
-        log[at + i] = get_le32(bytes, 4 * i);
+    while i < n {
+        log[at + i] = get_whole(bytes, 4 * i);
         i += 1;
     }
 }

@@ -1,77 +1,60 @@
--- i words are down.
 use borrow.Author.Needs.{needs}
-use Prim.Native.Nat.{_-_, _≤_}
-use mathlib.Core.Path.{refl, sym, _∙_}
 use native.Mathlib.Omega.{arith}
+use lib.Seq.{take-all}
 use Rattle.slices.specs.Le.{packed}
-use Rattle.slices.proofs.Over.{Laid, laid-none, laid-more, laid-fits}
-use Rattle.slices.proofs.Le.{length-packed, getD-packed}
+use Rattle.slices.proofs.Le.{length-packed, packed-cut}
 use Rattle.slices.proofs.pack.Statement.{statement}
 use Rattle.slices.proofs.pack.Tie as tie
 
-abbrev Inv-loop : tie.InvT-loop
-Inv-loop log₀ at bytes m i₀ log i = (i ≤ m) × Laid log₀ at (packed bytes) i log
-
-abbrev μ-loop : tie.MeasureT-loop
-μ-loop log₀ at bytes m i₀ log i = m - i
-
-add-fitting : tie.Need-add-fitting Inv-loop μ-loop
-add-fitting c = search needs
-
-fitting-requires : tie.Need-fitting-requires Inv-loop μ-loop
+fitting-requires : tie.Need-fitting-requires
 fitting-requires c κs = search needs
 
-loop-holds : tie.Need-loop-holds Inv-loop μ-loop
-loop-holds c = (search needs, laid-none refl)
+pack-whole-requires : tie.Need-pack-whole-requires
+pack-whole-requires c κs = search needs
 
-mul-get-le32 : tie.Need-mul-get-le32 Inv-loop μ-loop
+mul-if1 : tie.Need-mul-if1
+mul-if1 c = search needs
+
+add-put-word : tie.Need-add-put-word
+add-put-word c = search needs
+
+mul-get-le32 : tie.Need-mul-get-le32
 mul-get-le32 c = search needs
 
-get-le32-requires : tie.Need-get-le32-requires Inv-loop μ-loop
+get-le32-requires : tie.Need-get-le32-requires
 get-le32-requires c κs = search needs
 
-add-log : tie.Need-add-log Inv-loop μ-loop
-add-log c = search needs
+put-word-requires : tie.Need-put-word-requires
+put-word-requires c κs = search needs
 
-mul-log : tie.Need-mul-log Inv-loop μ-loop
-mul-log c = search needs
+same-length : tie.Need-same-length
+same-length c = search needs
 
-slice-write-log : tie.Need-slice-write-log Inv-loop μ-loop
-slice-write-log c = search needs
+returns : tie.Need-returns
+returns c =
+    let a = c .before .before .before .before .before .before .before .before .before .before .before .before .before .args in
+    rw (c .before .before .put-word .ensures, c .before .before .before .get-le32 .ensures, c .before .before .before .before .before .before .before .before .pack-whole .ensures) (packed-cut (a .log .now) (a .bytes .now) (a .at) (c .before .before .before .before .before .before .before .before .before .before .fitting .result) (c .before .before .before .before .before .before .before .before .before .before .fitting .ensures) (c .before .before .before .before .before .if1 .taken))
 
-add-i : tie.Need-add-i Inv-loop μ-loop
-add-i c = search needs
+same-length-2 : tie.Need-same-length-2
+same-length-2 c = search needs
 
-loop-less : tie.Need-loop-less Inv-loop μ-loop
-loop-less c = search needs
-
-loop-again : tie.Need-loop-again Inv-loop μ-loop
-loop-again c =
-    let bs = c .before .before .before .before .before .before .args .bytes .now in
-    (search needs, laid-more 0 (c .before .before .loop .inv .1) (omega (arith, length-packed bs)) refl refl (c .get-le32 .ensures ∙ sym (getD-packed bs (c .before .before .loop .i))))
-
-same-length : tie.Need-same-length Inv-loop μ-loop
-same-length c = c .before .loop .inv .1 .len
-
-returns : tie.Need-returns Inv-loop μ-loop
-returns c = laid-fits (c .before .loop .inv .1) (omega (arith, length-packed (c .before .before .before .before .before .args .bytes .now)))
+returns-2 : tie.Need-returns-2
+returns-2 c =
+    let bs = c .before .before .before .before .before .before .before .before .args .bytes .now in
+    rw (take-all (c .before .before .before .before .before .fitting .result) (packed bs) (omega (arith, length-packed bs))) at (c .before .before .before .pack-whole .ensures)
 
 pub pack-spec : {M : Type 1} → statement M
 pack-spec =
     tie.close
     (tie.spec
-    Inv-loop
-    μ-loop
-    add-fitting
     fitting-requires
-    loop-holds
+    pack-whole-requires
+    mul-if1
+    add-put-word
     mul-get-le32
     get-le32-requires
-    add-log
-    mul-log
-    slice-write-log
-    add-i
-    loop-less
-    loop-again
+    put-word-requires
     same-length
-    returns)
+    returns
+    same-length-2
+    returns-2)
