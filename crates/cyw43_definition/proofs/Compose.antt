@@ -84,3 +84,13 @@ opened f p u e = unroll-bind f (attempt p) ∙ (ap (λ t. unroll (bind t f)) (un
 pub lifted : {A B C : Type 0} (f : A → World → Prog B) (g : Fin B → World → Prog C) (p u : Prog A) → unroll p ≡ u → unroll (bind (attempt (bind p f)) g) ≡ unroll (bind (attempt (bind u f)) g)
 lifted f g p u e =
     opened g (bind p f) (unroll (bind u f)) (unroll-bind f p ∙ ap (λ t. unroll (bind t f)) e) ∙ sym (opened g (bind u f) (unroll (bind u f)) refl)
+
+-- what follows a part, told apart by how the part ended
+pub bind-raise : {A B : Type 0} (f : A → World → Prog B) (p : Prog A) → bind p f ≡ bind (attempt p) (λ r v. bind (raise r v) f)
+unfolding bind attempt raise
+bind-raise f (ret a w) = refl
+bind-raise f (stop e w) = refl
+bind-raise f (ask q k) = λ i. ask q (λ x. bind-raise f (k x) i)
+bind-raise f (say q p) = λ i. say q (bind-raise f p i)
+bind-raise f (loop l w k) = λ i. loop l w (λ r v. bind-raise f (k r v) i)
+bind-raise f (note n p) = λ i. note n (bind-raise f p i)

@@ -26,15 +26,21 @@ use Rattle.cyw43_inner.specs.declared.points.PausePoint.{PausePoint}
 use Rattle.cyw43_inner.specs.declared.points.CallPoint.{CallPoint}
 use Rattle.cyw43_inner.specs.declared.points.Before.{Before}
 use Rattle.cyw43_inner.specs.declared.points.RequestPut.{RequestPut}
+use Rattle.cyw43_inner.specs.declared.points.Lay.{Lay}
 use Rattle.cyw43_inner.specs.declared.points.CallNext.{CallNext}
 use Rattle.cyw43_inner.specs.declared.points.CallStep.{CallStep}
 use Rattle.cyw43_inner.specs.Steps.{lays, layBefore, step, asks, ends, refuses, linkedState}
 use Rattle.cyw43_inner.specs.Stages.{requestAt, requestLen, isTried, isLast}
 
+unfoldable pub unbegun : State → Stage → Bool → Lay → DriverError → CallStep
+unbegun s g h lay e =
+    pick (isDevError e) (pick (isLast g) (step (linkedState s WifiState.Down) h lay (CallNext.Refused e)) (step s h lay (CallNext.Refused e)))
+    (step s h lay (CallNext.Refused e))
+
 unfoldable pub begunBy : IoctlNext → State → Stage → Bool → Before → RequestPut → CallStep
 begunBy (IoctlNext.Ask p q) s g h before put = step s h (lays before put p) (CallNext.Ask (CallPoint.Exchange g q))
 begunBy (IoctlNext.Done c) s g h before put = step s h (lays before put HeaderPut.None) (CallNext.Refused DriverError.InvalidArg)
-begunBy (IoctlNext.Refused p e) s g h before put = step s h (lays before put p) (CallNext.Refused e)
+begunBy (IoctlNext.Refused p e) s g h before put = unbegun s g h (lays before put p) e
 
 abbrev pub begun : IoctlStep → Stage → Bool → Before → RequestPut → CallStep
 begun x g h before put = begunBy (x .next) (x .st) g h before put

@@ -1,18 +1,40 @@
 // A call's beginning, and its step at any point.
 ghost use mathlib.Core.Path.{_≡_};
 ghost use Rattle.cyw43_inner.specs.Begin as to;
-
-use crate::exchange::{begin, clock_answer, exchange_answer, pause_answer, tick_answer};
-use crate::points::{Before, CallNext, CallPoint, CallStep, Ending, Job, Lay, Lens};
-use crate::points::{RequestPut, Stage};
-use crate::poll::{poll_point, poll_tick};
-use crate::steps::{end, refuse, step};
+use crate::exchange::begin;
+use crate::exchange::clock_answer;
+use crate::exchange::exchange_answer;
+use crate::exchange::pause_answer;
+use crate::exchange::tick_answer;
+use crate::points::Before;
+use crate::points::CallNext;
+use crate::points::CallPoint;
+use crate::points::CallStep;
+use crate::points::Ending;
+use crate::points::Job;
+use crate::points::Lens;
+use crate::points::RequestPut;
+use crate::points::Stage;
+use crate::poll::poll_point;
+use crate::poll::poll_tick;
+use crate::steps::end;
+use crate::steps::lay_request;
+use crate::steps::refuse;
+use crate::steps::step;
 use cyw43_device::Arrival;
-use cyw43_send::{HeaderPut, OutPacket, SendNext, SendStep, send_answer, send_start};
+use cyw43_send::HeaderPut;
+use cyw43_send::OutPacket;
+use cyw43_send::SendNext;
+use cyw43_send::SendStep;
+use cyw43_send::send_answer;
+use cyw43_send::send_start;
 use cyw43_types::bus::BusAnswer;
-use cyw43_types::link::{ConnectFailure, WifiState};
+use cyw43_types::link::ConnectFailure;
+use cyw43_types::link::WifiState;
 use cyw43_types::outcome::DriverError;
-use cyw43_types::state::{State, set_failure, with_link};
+use cyw43_types::state::State;
+use cyw43_types::state::set_failure;
+use cyw43_types::state::with_link;
 
 // A call that is nothing but exchanges, from its first one.
 pub fn exchanges(j: Job, l: Lens, g: Stage, st: State) -> CallStep
@@ -71,31 +93,19 @@ fn sending_next(st: State, heard: bool, put: RequestPut, n: SendNext) -> CallSte
         SendNext::Ask(h, p) => step(
             st,
             heard,
-            Lay {
-                before: Before::None,
-                request: put,
-                header: h,
-            },
+            lay_request(Before::None, put, h),
             CallNext::Ask(CallPoint::Send(p)),
         ),
         SendNext::Sent => step(
             st,
             heard,
-            Lay {
-                before: Before::None,
-                request: put,
-                header: HeaderPut::None,
-            },
+            lay_request(Before::None, put, HeaderPut::None),
             CallNext::Ended(Ending::Done),
         ),
         SendNext::Refused(h, e) => step(
             st,
             heard,
-            Lay {
-                before: Before::None,
-                request: put,
-                header: h,
-            },
+            lay_request(Before::None, put, h),
             CallNext::Refused(e),
         ),
     }
@@ -118,14 +128,7 @@ pub fn frame_start(j: Job, interface: u8, st: State) -> CallStep
 
 // ---- any point
 
-pub fn call_answer(
-    j: Job,
-    l: Lens,
-    st: State,
-    p: CallPoint,
-    x: BusAnswer,
-    a: Arrival,
-) -> CallStep
+pub fn call_answer(j: Job, l: Lens, st: State, p: CallPoint, x: BusAnswer, a: Arrival) -> CallStep
     ensures { λ r. ⌜ r ≡ to.callAnswer j l st p x a ⌝ }
 {
     match p {
@@ -135,8 +138,6 @@ pub fn call_answer(
         CallPoint::Tick => tick_answer(st, x),
         CallPoint::Poll(q) => poll_point(st, q, x, a),
         CallPoint::PollTick(t) => poll_tick(st, t, x),
-        CallPoint::Send(q) => {
-            sending(send_answer(st, frame_out(j), q, x, a), RequestPut::None)
-        }
+        CallPoint::Send(q) => { sending(send_answer(st, frame_out(j), q, x, a), RequestPut::None) }
     }
 }

@@ -1,30 +1,71 @@
 // A call's exchanges, one after the other.
 ghost use mathlib.Core.Path.{_≡_};
 ghost use Rattle.cyw43_inner.specs.Exchange as to;
-
-use crate::points::{Before, CallNext, CallPoint, CallStep, Ending, Job, Lay, Lens};
-use crate::points::{PausePoint, RequestPut, Stage};
-use crate::stages::{is_last, is_tried, request_at, request_len};
-use crate::steps::{ask, end, is_dev_error, lay_before, linked, refuse, step};
+use crate::points::Before;
+use crate::points::CallNext;
+use crate::points::CallPoint;
+use crate::points::CallStep;
+use crate::points::Ending;
+use crate::points::Job;
+use crate::points::Lay;
+use crate::points::Lens;
+use crate::points::PausePoint;
+use crate::points::RequestPut;
+use crate::points::Stage;
+use crate::stages::is_last;
+use crate::stages::is_tried;
+use crate::stages::request_at;
+use crate::stages::request_len;
+use crate::steps::ask;
+use crate::steps::end;
+use crate::steps::is_dev_error;
+use crate::steps::lay_before;
+use crate::steps::lay_request;
+use crate::steps::linked;
+use crate::steps::refuse;
+use crate::steps::step;
 use cyw43_device::Arrival;
-use cyw43_ioctl::{IoctlNext, IoctlPoint, IoctlStep, ioctl_answer, ioctl_start};
+use cyw43_ioctl::IoctlNext;
+use cyw43_ioctl::IoctlPoint;
+use cyw43_ioctl::IoctlStep;
+use cyw43_ioctl::ioctl_answer;
+use cyw43_ioctl::ioctl_start;
 use cyw43_requests::request::Request;
-use cyw43_requests::security::{pmk, sae};
+use cyw43_requests::security::pmk;
+use cyw43_requests::security::sae;
 use cyw43_sdpcm::header::next_id;
-use cyw43_send::{HeaderPut, elapsed_us};
+use cyw43_send::HeaderPut;
+use cyw43_send::elapsed_us;
 use cyw43_types::bus::BusAnswer;
-use cyw43_types::link::{StartedTick, WifiState};
+use cyw43_types::link::StartedTick;
+use cyw43_types::link::WifiState;
 use cyw43_types::outcome::DriverError;
 use cyw43_types::scan::ScanMarks;
-use cyw43_types::state::{State, set_auth, set_link_state, set_tick, with_link, with_scan};
+use cyw43_types::state::State;
+use cyw43_types::state::set_auth;
+use cyw43_types::state::set_link_state;
+use cyw43_types::state::set_tick;
+use cyw43_types::state::with_link;
+use cyw43_types::state::with_scan;
 
-fn begun(
-    s: IoctlStep,
-    g: Stage,
-    heard: bool,
-    before: Before,
-    put: RequestPut,
-) -> CallStep
+// A beginning was refused; join's last request leaves Down.
+fn unbegun(st: State, g: Stage, heard: bool, lay: Lay, e: DriverError) -> CallStep
+    ensures { λ r. ⌜ r ≡ to.unbegun st g heard lay e ⌝ }
+{
+    if is_dev_error(e) {
+        if is_last(g) {
+            return step(
+                linked(st, WifiState::Down),
+                heard,
+                lay,
+                CallNext::Refused(e),
+            );
+        }
+    }
+    step(st, heard, lay, CallNext::Refused(e))
+}
+
+fn begun(s: IoctlStep, g: Stage, heard: bool, before: Before, put: RequestPut) -> CallStep
     ensures { λ r. ⌜ r ≡ to.begun s g heard before put ⌝ }
 {
     let st = s.st;
@@ -33,33 +74,16 @@ fn begun(
         IoctlNext::Ask(h, p) => step(
             st,
             heard,
-            Lay {
-                before: before,
-                request: put,
-                header: h,
-            },
+            lay_request(before, put, h),
             CallNext::Ask(CallPoint::Exchange(g, p)),
         ),
         IoctlNext::Done(_) => step(
             st,
             heard,
-            Lay {
-                before: before,
-                request: put,
-                header: HeaderPut::None,
-            },
+            lay_request(before, put, HeaderPut::None),
             CallNext::Refused(DriverError::InvalidArg),
         ),
-        IoctlNext::Refused(h, e) => step(
-            st,
-            heard,
-            Lay {
-                before: before,
-                request: put,
-                header: h,
-            },
-            CallNext::Refused(e),
-        ),
+        IoctlNext::Refused(h, e) => unbegun(st, g, heard, lay_request(before, put, h), e),
     }
 }
 
@@ -72,14 +96,7 @@ fn new_id(st: State) -> u8
 }
 
 // A stage's request is laid, and its exchange begins.
-pub fn begin(
-    j: Job,
-    l: Lens,
-    g: Stage,
-    st: State,
-    heard: bool,
-    before: Before,
-) -> CallStep
+pub fn begin(j: Job, l: Lens, g: Stage, st: State, heard: bool, before: Before) -> CallStep
     ensures { λ r. ⌜ r ≡ to.begins j l g st heard before ⌝ }
 {
     let r = request_at(j, g);
@@ -123,11 +140,7 @@ fn after_tmo(j: Job, l: Lens, st: State, heard: bool, before: Before) -> CallSte
         return step(
             st,
             heard,
-            Lay {
-                before: before,
-                request: RequestPut::Payload(Request::Key),
-                header: HeaderPut::None,
-            },
+            lay_request(before, RequestPut::Payload(Request::Key), HeaderPut::None),
             CallNext::Ask(CallPoint::Pause(PausePoint::BeforeKey)),
         );
     }
@@ -188,7 +201,12 @@ fn after(j: Job, l: Lens, g: Stage, st: State, heard: bool, before: Before) -> C
 {
     let ending = j.ending;
     match g {
-        Stage::Country => ask(st, heard, before, CallPoint::Pause(PausePoint::AfterCountry)),
+        Stage::Country => ask(
+            st,
+            heard,
+            before,
+            CallPoint::Pause(PausePoint::AfterCountry),
+        ),
         Stage::AntDiv => begin(j, l, Stage::Txglom, st, heard, before),
         Stage::Txglom => begin(j, l, Stage::Apsta, st, heard, before),
         Stage::Apsta => begin(j, l, Stage::BaWsize, st, heard, before),
@@ -243,25 +261,14 @@ fn failed(
     refuse(st, heard, Before::Header(h), e)
 }
 
-fn exchange_next(
-    j: Job,
-    l: Lens,
-    g: Stage,
-    st: State,
-    heard: bool,
-    n: IoctlNext,
-) -> CallStep
+fn exchange_next(j: Job, l: Lens, g: Stage, st: State, heard: bool, n: IoctlNext) -> CallStep
     ensures { λ r. ⌜ r ≡ to.exchangeNext j l g st heard n ⌝ }
 {
     match n {
         IoctlNext::Ask(h, p) => step(
             st,
             heard,
-            Lay {
-                before: Before::None,
-                request: RequestPut::None,
-                header: h,
-            },
+            lay_request(Before::None, RequestPut::None, h),
             CallNext::Ask(CallPoint::Exchange(g, p)),
         ),
         IoctlNext::Done(c) => after(j, l, g, st, heard, Before::Copy(c)),

@@ -1,14 +1,19 @@
 // Where a call can wait, and what a step of it is. All by value; byte arguments and the work buffer stay outside.
 ghost use mathlib.Core.Path.{_≡_};
 ghost use Rattle.cyw43_inner.specs.Steps as to;
-
-use cyw43_device::{PollPoint, poll_op};
-use cyw43_ioctl::{Copied, IoctlPoint, ioctl_op};
+use cyw43_device::PollPoint;
+use cyw43_device::poll_op;
+use cyw43_ioctl::Copied;
+use cyw43_ioctl::IoctlPoint;
+use cyw43_ioctl::ioctl_op;
 use cyw43_requests::request::Request;
-use cyw43_send::{HeaderPut, SendPoint, send_op};
+use cyw43_send::HeaderPut;
+use cyw43_send::SendPoint;
+use cyw43_send::send_op;
 use cyw43_types::bus::BusOp;
 use cyw43_types::link::WifiAuth;
-use cyw43_types::outcome::{DriverError, WlanPollResult};
+use cyw43_types::outcome::DriverError;
+use cyw43_types::outcome::WlanPollResult;
 use cyw43_types::state::State;
 
 // What a call gives at its end; the MAC and the word are read from the work buffer.

@@ -1,19 +1,38 @@
 // `poll`.
 ghost use mathlib.Core.Path.{_≡_};
 ghost use Rattle.cyw43_inner.specs.Poll as to;
-
-use crate::points::{Before, CallPoint, CallStep, Ending};
-use crate::steps::{ask, end, refuse};
-use cyw43_device::{Arrival, PollNext, PollPoint, poll_answer, poll_start};
+use crate::points::Before;
+use crate::points::CallPoint;
+use crate::points::CallStep;
+use crate::points::Ending;
+use crate::steps::ask;
+use crate::steps::end;
+use crate::steps::refuse;
+use cyw43_device::Arrival;
+use cyw43_device::PollNext;
+use cyw43_device::PollPoint;
+use cyw43_device::poll_answer;
+use cyw43_device::poll_start;
 use cyw43_events::handle::handle_async_event;
 use cyw43_events::link::released;
-use cyw43_send::{elapsed_us, store_reply};
+use cyw43_send::elapsed_us;
+use cyw43_send::store_reply;
 use cyw43_types::bus::BusAnswer;
-use cyw43_types::link::{ConnectFailure, StartedTick, WifiState};
-use cyw43_types::outcome::{DriverError, WlanPollResult};
-use cyw43_types::pending::{PendingBuf, PendingRx};
-use cyw43_types::sdpcm::{AsyncEvent, SdpcmPacket};
-use cyw43_types::state::{State, set_failure, set_frame, with_link, with_pending, with_sdpcm};
+use cyw43_types::link::ConnectFailure;
+use cyw43_types::link::StartedTick;
+use cyw43_types::link::WifiState;
+use cyw43_types::outcome::DriverError;
+use cyw43_types::outcome::WlanPollResult;
+use cyw43_types::pending::PendingBuf;
+use cyw43_types::pending::PendingRx;
+use cyw43_types::sdpcm::AsyncEvent;
+use cyw43_types::sdpcm::SdpcmPacket;
+use cyw43_types::state::State;
+use cyw43_types::state::set_failure;
+use cyw43_types::state::set_frame;
+use cyw43_types::state::with_link;
+use cyw43_types::state::with_pending;
+use cyw43_types::state::with_sdpcm;
 
 // A poll of the device begins.
 pub fn polling(st: State, heard: bool) -> CallStep

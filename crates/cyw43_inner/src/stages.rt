@@ -1,10 +1,17 @@
 // Each stage's request.
 ghost use mathlib.Core.Path.{_≡_};
 ghost use Rattle.cyw43_inner.specs.Stages as to;
-
-use crate::points::{Job, Lens, Stage};
-use cyw43_requests::request::{IovarName, Request, name_len};
-use cyw43_requests::security::{auth_type, mfp, supplicant, wpa_auth, wsec};
+use crate::points::Job;
+use crate::points::Lens;
+use crate::points::Stage;
+use cyw43_requests::request::IovarName;
+use cyw43_requests::request::Request;
+use cyw43_requests::request::name_len;
+use cyw43_requests::security::auth_type;
+use cyw43_requests::security::mfp;
+use cyw43_requests::security::supplicant;
+use cyw43_requests::security::wpa_auth;
+use cyw43_requests::security::wsec;
 
 fn set_word(cmd: u32, value: u32) -> Request
     ensures { λ r. ⌜ r ≡ to.setting cmd value ⌝ }

@@ -2,21 +2,34 @@
 ghost use mathlib.Core.Path.{_≡_};
 ghost use Rattle.cyw43_definition.specs.Join.{isDevError};
 ghost use Rattle.cyw43_inner.specs.Steps as to;
-
-use crate::points::{Before, CallNext, CallPoint, CallStep, Ending, Lay, RequestPut};
+use crate::points::Before;
+use crate::points::CallNext;
+use crate::points::CallPoint;
+use crate::points::CallStep;
+use crate::points::Ending;
+use crate::points::Lay;
+use crate::points::RequestPut;
 use cyw43_send::HeaderPut;
 use cyw43_types::link::WifiState;
 use cyw43_types::outcome::DriverError;
-use cyw43_types::state::{State, set_link_state, with_link};
+use cyw43_types::state::State;
+use cyw43_types::state::set_link_state;
+use cyw43_types::state::with_link;
+
+pub fn lay_request(before: Before, put: RequestPut, h: HeaderPut) -> Lay
+    ensures { λ r. ⌜ r ≡ to.lays before put h ⌝ }
+{
+    Lay {
+        before: before,
+        request: put,
+        header: h,
+    }
+}
 
 pub fn lay_before(before: Before) -> Lay
     ensures { λ r. ⌜ r ≡ to.layBefore before ⌝ }
 {
-    Lay {
-        before: before,
-        request: RequestPut::None,
-        header: HeaderPut::None,
-    }
+    lay_request(before, RequestPut::None, HeaderPut::None)
 }
 
 pub fn step(st: State, heard: bool, lay: Lay, n: CallNext) -> CallStep

@@ -1,0 +1,2 @@
+pub mod StageBridge
+pub mod Bridge
