@@ -21,7 +21,7 @@ returns : tie.Need-returns
 unfolding emitStep
 returns c =
     let e : 2040 < round4 (c .before .before .before .before .before .args .out .size) = omega arith in
-    simp (lt-ltb _ _ e) (c .step .ensures ∙ rw (c .before .before .with-sdpcm .ensures, c .before .before .before .next-seq .ensures))
+    simp (lt-ltb _ _ e) (c .step .ensures ∙ simp (c .before .before .with-sdpcm .ensures, c .before .before .before .next-seq .ensures))
 
 add-t12 : tie.Need-add-t12
 add-t12 c = search needs
@@ -37,7 +37,7 @@ unfolding emitStep
 returns-2 c =
     let e : round4 (c .before .before .before .before .before .args .out .size) ≤ 2040 = omega arith in
     let m : (c .before .before .before .before .before .args .out .size + 3) / 4 * 4 ≡ round4 (c .before .before .before .before .before .args .out .size) = omega arith in
-    simp (le-ltb _ _ e) (c .step2 .ensures ∙ rw (m, c .before .before .with-sdpcm .ensures, c .before .before .before .next-seq .ensures))
+    simp (le-ltb _ _ e) (c .step2 .ensures ∙ simp (m, c .before .before .with-sdpcm .ensures, c .before .before .before .next-seq .ensures))
 
 pub emit-spec : {M : Type 1} → statement M
 emit-spec =

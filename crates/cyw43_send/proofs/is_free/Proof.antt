@@ -1,3 +1,5 @@
+use mathlib.Core.Path.{_≡_}
+use native.Mathlib.Omega.{arith}
 use borrow.Author.Tests.{eq-eqb, ne-eqb}
 use Rattle.cyw43_definition.specs.Send.{free}
 use Rattle.cyw43_send.proofs.is_free.Statement.{statement}
@@ -5,7 +7,9 @@ use Rattle.cyw43_send.proofs.is_free.Tie as tie
 
 returns : tie.Need-returns
 unfolding free
-returns c = simp (eq-eqb _ _ (c .before .if1 .taken))
+returns c =
+    let e : c .before .before .before .before .args .st .sdpcm .«wlan_flow_control» ≡ 0 = omega arith in
+    simp (eq-eqb _ _ e)
 
 returns-2 : tie.Need-returns-2
 unfolding free
