@@ -52,6 +52,11 @@ use Rattle.cyw43_inner.specs.Meaning.{Args, lensOf, requestIn, lenAt, la
 use Rattle.cyw43_definition.specs.Join.{security, pmkSet, saeSet, keyLaid, connecting}
 use Rattle.cyw43_definition.specs.Prog.{pause, operate, valued}
 use Rattle.cyw43_definition.specs.Calls.{settled, scanning}
+use Rattle.cyw43_definition.specs.Bus.{lowOf}
+use Rattle.cyw43_definition.specs.Send.{elapsed}
+use Rattle.cyw43_definition.specs.Poll.{failureReport, pollTurn, timedOut, disconnectTimeout, polled}
+use Rattle.cyw43_types.specs.declared.link.ConnectFailure.{ConnectFailure}
+use Rattle.cyw43_inner.specs.Poll.{pollingStep, polledStep, downReport, reportBy, reportStep, tickStep, nothingBy, nothingStep, held, frameStep, packetStep, nextStep, pollPoint, timedOutState, pollTick}
 use Rattle.cyw43_device.specs.Meaning.{secretly, InRange, landedWorld}
 use Rattle.cyw43_ioctl.specs.Meaning.{ioctlStepAt}
 use Rattle.cyw43_ioctl.proofs.Bridge as ioctl-bridge
@@ -165,4 +170,42 @@ module _ (a : Args) (m : Modest a) where
       let r = ioctlStepAt (lenAt a g) q x w in
       opened (afterStage a g) (Ki (lenAt a g) (requestIn a g .secret) q x w) _ (ioctl-bridge.ioctl-is (lenAt a g) (requestIn a g .secret) q x w h)
       ∙ (next-is g (r .next) (r .heard) (eventAt (CallPoint.Exchange g q) x w) (r .st) (landedWorld (ioctl.ioctlOp q) x w)
-      ∙ ?len)
+      ∙ rw (len-fits a g m) refl)
+
+  -- ---- waits, clock and tick
+
+  pause-is : (q : PausePoint) (e : AsyncEvent) (w : World) → unroll (Kpause a q w) ≡ callShown a (pauseAnswer (a .job) (lensOf a) (w .st) q) e w
+  unfolding Kpause pauseAnswer unroll bind keyLaid exchange rest requestAt isTried isLast laidBefore laidRequest laidHeader laidAll listHeard listAt callTree successOf
+  pause-is PausePoint.AfterCountry e w = plain-begin a Stage.AntDiv false Before.None e (w .st) w m refl refl
+  pause-is (PausePoint.Settle ns) e w = plain-begin a Stage.EventMessages false Before.None e (w .st) w m refl refl
+  pause-is PausePoint.AfterEventMessages e w = plain-begin a Stage.InitUp false Before.None e (w .st) w m refl refl
+  pause-is PausePoint.AfterUp e w = refl
+  pause-is PausePoint.BeforeKey e w = ap unroll (plain-is a Stage.Key (doIoctl (def.setKey (a .second)) w) refl refl) ∙ begin-numbered-is a Stage.Key e w m
+  pause-is PausePoint.BeforeSae e w = plain-begin a Stage.Sae false Before.None e (w .st) w m refl refl
+
+  settle-is : (t : ℕ) (e : AsyncEvent) (w : World) → unroll (bind (settled t w) (λ u. fromEventMessages)) ≡ callShown a (settleStep (a .job) (lensOf a) (w .st) t) e w
+  unfolding unroll bind settled pause settleStep callTree callOp pauseNs secretAt secretly asking Kc Kpause rest requestAt isTried isLast laidBefore laidRequest laidHeader laidAll listHeard listAt
+  settle-is t e w = by (ltb (elapsed 0 t % 4294967296) 150000)
+    where
+      n : ℕ
+      n = (150000 - elapsed 0 t % 4294967296) * 1000
+
+      small : lowOf n ≡ n
+      small = omega arith
+
+      by : (b : Bool) → unroll (bind (pick b (pause n w) (ret tt w)) (λ u. fromEventMessages)) ≡ callShown a (pick b (asks (w .st) false Before.None (CallPoint.Pause (PausePoint.Settle n))) (begins (a .job) (lensOf a) Stage.EventMessages (w .st) false Before.None)) e w
+      by true = rw small refl
+      by false = plain-begin a Stage.EventMessages false Before.None e (w .st) w m refl refl
+
+  -- ---- poll
+
+  report-is : (e : AsyncEvent) (w : World) → unroll (failureReport (w .st .link .state) (w .st .link .«connect_failure») w) ≡ callShown a (reportStep (w .st)) e w
+  unfolding unroll failureReport reportBy downReport callTree successOf laidBefore laidRequest laidHeader laidAll listHeard listAt
+  report-is e w = by (w .st .link .state) (w .st .link .«connect_failure») refl
+    where
+      by : (s : WifiState) (f : ConnectFailure) → f ≡ w .st .link .«connect_failure» → unroll (failureReport s f w) ≡ callShown a (reportBy (w .st) s) e w
+      by WifiState.Down ConnectFailure.None q = rw (← q) refl
+      by WifiState.Down (ConnectFailure.Some f) q = rw (← q) refl
+      by WifiState.Connecting f q = refl
+      by WifiState.Connected f q = refl
+      by WifiState.Disconnecting f q = refl
