@@ -69,6 +69,33 @@ use Rattle.cyw43_inner.specs.Exchange.{begins, beginsNumbered, saeStep, 
 use Rattle.cyw43_inner.specs.Meaning.{successOf, Kpause, fromInfra, afterKey, afterTmo, fromWsec, afterJoinBaWsize, ssidTried, afterWpaAuth, fromEventMessages}
 use Rattle.cyw43_inner.proofs.StageBridge.{Modest, len-fits, ask-is, plain-is, last-is, begin-is, begin-numbered-is, plain-begin, tried-begin}
 
+use mathlib.Core.Path.{_≡_}
+use Rattle.cyw43_types.specs.State.{withSdpcm, withLink}
+use Rattle.cyw43_types.specs.declared.link.StartedTick.{StartedTick}
+use Rattle.cyw43_types.specs.declared.outcome.Success.{Success}
+use Rattle.cyw43_types.specs.declared.outcome.WlanPollResult.{WlanPollResult}
+use Rattle.cyw43_types.specs.declared.sdpcm.SdpcmPacket.{SdpcmPacket}
+use lib.Dec.{leb}
+use Rattle.cyw43_definition.specs.Bus.{nowhere, fault, val}
+use Rattle.cyw43_definition.specs.Prog.{Turn, again, out, Loop, loop, turned}
+use Rattle.cyw43_definition.specs.Event.{released}
+use Rattle.cyw43_definition.specs.Device.{hadPacket, pollFirst, pollBy, statusRead, statusReads, interruptRead}
+use Rattle.cyw43_definition.specs.Poll.{first, body, holding}
+use Rattle.cyw43_definition.proofs.Compose.{followed, lifted}
+use Rattle.cyw43_events.specs.Handle.{handledOf}
+use Rattle.cyw43_device.specs.declared.PollPoint.{PollPoint}
+use Rattle.cyw43_device.specs.declared.PollNext.{PollNext}
+use Rattle.cyw43_device.specs.Poll.{pollOp, pollStart}
+use Rattle.cyw43_device.specs.Meaning.{Kp, pollTree, pollStepAt, Tells, told, landing}
+use Rattle.cyw43_device.proofs.Asking.{asking-bind, unroll-asking}
+use Rattle.cyw43_device.proofs.Bridge as device-bridge
+use Rattle.cyw43_device.proofs.Bridge.{poll-tells}
+use Rattle.cyw43_send.specs.Send.{stored}
+use Rattle.cyw43_send.specs.Meaning.{past, Ks, sendTree, sendStepAt}
+use Rattle.cyw43_send.proofs.Bridge as send-bridge
+use Rattle.cyw43_send.proofs.Bridge.{handled-is}
+use Rattle.cyw43_inner.specs.Begin.{frameOut, sendingNext, sendingStep}
+
 module _ (a : Args) (m : Modest a) where
   -- ---- what follows a stage
 
@@ -209,3 +236,111 @@ module _ (a : Args) (m : Modest a) where
       by WifiState.Connecting f q = refl
       by WifiState.Connected f q = refl
       by WifiState.Disconnecting f q = refl
+
+  reported : M Result
+  reported v = failureReport (v .st .link .state) (v .st .link .«connect_failure») v
+
+  tick-is : (t : StartedTick) (e : AsyncEvent) (w : World) → unroll (bind (disconnectTimeout WifiState.Disconnecting t w) (λ u. reported)) ≡ callShown a (tickStep (w .st) t) e w
+  unfolding unroll bind disconnectTimeout operate tickStep reported callTree callOp secretAt secretly asking Kc laidBefore laidRequest laidHeader laidAll listHeard listAt
+  tick-is StartedTick.None e w = report-is e w
+  tick-is (StartedTick.Some n) e w = refl
+
+  nothing-is : (e : AsyncEvent) (w : World) → unroll (polled false w) ≡ callShown a (nothingStep (w .st)) e w
+  unfolding bind polled disconnectTimeout nothingBy reported
+  nothing-is e w = by (w .st .link .state)
+    where
+      by : (s : WifiState) → unroll (bind (disconnectTimeout s (w .st .link .«disconnect_started_tick») w) (λ u. reported)) ≡ callShown a (nothingBy (w .st) s) e w
+      by WifiState.Down = report-is e w
+      by WifiState.Connecting = report-is e w
+      by WifiState.Connected = report-is e w
+      by WifiState.Disconnecting = tick-is (w .st .link .«disconnect_started_tick») e w
+
+  -- a turn begins
+  polling-is : (h : Bool) (e : AsyncEvent) (s : State) (w : World) → unroll (loop Loop.pollLoop (world s (w .buf) (listHeard h e (w .list))) (past polled)) ≡ callShown a (pollingStep s h) e w
+  unfolding unroll pollingStep pollStart pollBy body bind callTree callOp secretAt pollOp secretly asking Kc Kp laidBefore laidRequest laidHeader laidAll listHeard listAt
+  polling-is h e s w = by (hadPacket s)
+    where
+      v : World
+      v = world s (w .buf) (listHeard h e (w .list))
+
+      by : (b : Bool) → ask (pick b Op.readStatus Op.readInterrupt) (λ x. bind (attempt (bind (pick b (bind (valued x v) (statusRead (statusReads 999))) (bind (valued x v) interruptRead)) pollTurn)) (turned Loop.pollLoop (past polled))) ≡ callShown a (asks s h Before.None (CallPoint.Poll (pick b (PollPoint.Status 999) PollPoint.Interrupt))) e w
+      by true = refl
+      by false = refl
+
+  frame-is : (offset len : ℕ) (e : AsyncEvent) (w : World) → unroll (bind (attempt (pick (ltb len 14) (ret again w) (ret (out true) (holding offset len w)))) (turned Loop.pollLoop (past polled))) ≡ callShown a (frameStep (w .st) offset len) e w
+  unfolding unroll bind attempt turned raise polled frameStep callTree successOf laidBefore laidRequest laidHeader laidAll listHeard listAt
+  frame-is offset len e w = by (ltb len 14)
+    where
+      by : (b : Bool) → unroll (bind (attempt (pick b (ret again w) (ret (out true) (holding offset len w)))) (turned Loop.pollLoop (past polled))) ≡ callShown a (pick b (pollingStep (w .st) false) (polledStep (held (w .st) offset len) WlanPollResult.Rx)) e w
+      by true = polling-is false e (w .st) w
+      by false = refl
+
+  packet-is : (p : SdpcmPacket) (e : AsyncEvent) (w : World) → Tells (w .buf) e (PollNext.Got p) → unroll (bind (attempt (pollTurn p w)) (turned Loop.pollLoop (past polled))) ≡ callShown a (packetStep (w .st) e p) e w
+  unfolding pollTurn packetStep Tells bind attempt turned raise listHeard
+  packet-is SdpcmPacket.None e w h = nothing-is e w
+  packet-is (SdpcmPacket.Control offset len status) e w h = polling-is false e (stored (w .st) offset len status) w
+  packet-is (SdpcmPacket.AsyncEvent offset len) e w h =
+      rw (handled-is offset len w, ← h) (polling-is (handledOf (w .st) len e .heard) e (handledOf (w .st) len e .st) w)
+  packet-is (SdpcmPacket.Data offset len interface) e w h = frame-is offset len e w
+
+  poll-next-is : (n : PollNext) (e : AsyncEvent) (w : World) → Tells (w .buf) e n → unroll (bind (attempt (bind (pollTree n w) pollTurn)) (turned Loop.pollLoop (past polled))) ≡ callShown a (nextStep (w .st) e n) e w
+  unfolding unroll pollTree nextStep bind attempt turned raise callTree callOp secretAt pollOp secretly asking Kc laidBefore laidRequest laidHeader laidAll listHeard listAt
+  poll-next-is (PollNext.Ask PollPoint.Interrupt) e w h = refl
+  poll-next-is (PollNext.Ask (PollPoint.Acknowledge v)) e w h = refl
+  poll-next-is (PollNext.Ask (PollPoint.Status n)) e w h = refl
+  poll-next-is (PollNext.Ask (PollPoint.Waited n)) e w h = refl
+  poll-next-is (PollNext.Ask PollPoint.FrameControl) e w h = refl
+  poll-next-is (PollNext.Ask (PollPoint.Packet n)) e w h = refl
+  poll-next-is (PollNext.Got p) e w h = packet-is p e w h
+  poll-next-is (PollNext.Refused x) e w h = refl
+
+  poll-is : (q : PollPoint) (x : Ans) (w : World) → InRange (pollOp q) x → unroll (Kc a (CallPoint.Poll q) x w) ≡ callShown a (callStepAt a (CallPoint.Poll q) x w) (eventAt (CallPoint.Poll q) x w) (landedWorld (pollOp q) x w)
+  unfolding Kc callOp callAnswer pollPoint
+  poll-is q x w h =
+      let v = landedWorld (pollOp q) x w in
+      let r = pollStepAt q x w in
+      lifted pollTurn (turned Loop.pollLoop (past polled)) (Kp q x w) _ (device-bridge.poll-is q x w h)
+      ∙ poll-next-is (r .next) (eventAt (CallPoint.Poll q) x w) (withState v (withSdpcm (v .st) (r .sdpcm))) (poll-tells q x w)
+
+  timed-out-is : (started t : ℕ) (w : World) → timedOut started t w ≡ withState w (timedOutState (w .st) started t)
+  unfolding timedOut timedOutState
+  timed-out-is started t w = by (leb 1000 (elapsed started t))
+    where
+      by : (b : Bool) → pick b (withState w (withLink (w .st) (released (w .st .link)))) w ≡ withState w (pick b (withLink (w .st) (released (w .st .link))) (w .st))
+      by true = refl
+      by false = refl
+
+  -- ---- send
+
+  sending-is : (h : Bool) (put : RequestPut) (n : SendNext) (e : AsyncEvent) (s : State) (w : World) → unroll (bind (sendTree (frameOut (a .job)) nowhere n (world s (laidRequest a put (w .buf)) (listHeard h e (w .list)))) (λ u. giving Success.Done)) ≡ callShown a (sendingNext s h put n) e w
+  unfolding unroll bind sendTree sendingNext callTree callOp secretAt send.sendOp send.stallOp pollOp secretly asking Kc successOf laidBefore laidHeader laidAll listAt
+  sending-is h put (SendNext.Ask p q) e s w =
+      let v = world s (laidHeader p (laidRequest a put (w .buf))) (listHeard h e (w .list)) in
+      let op = opIn (send.sendOp q) nowhere (v .buf) in
+      let k : Ans → Prog (Unit {0}) = λ x. Ks (frameOut (a .job)) nowhere q x v in
+      ap unroll (asking-bind op k (λ u. giving Success.Done)) ∙ unroll-asking op (λ x. bind (k x) (λ u. giving Success.Done))
+  sending-is h put SendNext.Sent e s w = refl
+  sending-is h put (SendNext.Refused p x) e s w = refl
+
+  sent-is : (q : SendPoint) (x : Ans) (w : World) → InRange (send.sendOp q) x → unroll (Kc a (CallPoint.Send q) x w) ≡ callShown a (callStepAt a (CallPoint.Send q) x w) (eventAt (CallPoint.Send q) x w) (landedWorld (send.sendOp q) x w)
+  unfolding Kc callOp callAnswer sendingStep laidRequest
+  sent-is q x w h =
+      let r = sendStepAt (frameOut (a .job)) q x w in
+      followed (λ u. giving Success.Done) (Ks (frameOut (a .job)) nowhere q x w) _ (send-bridge.send-is (frameOut (a .job)) nowhere q x w h)
+      ∙ sending-is (r .heard) RequestPut.None (r .next) (eventAt (CallPoint.Send q) x w) (r .st) (landedWorld (send.sendOp q) x w)
+
+  -- ---- the bridge
+
+  pub call-is : (p : CallPoint) (x : Ans) (w : World) → InRange (callOp p) x → unroll (Kc a p x w) ≡ callShown a (callStepAt a p x w) (eventAt p x w) (landedWorld (callOp p) x w)
+  unfolding unroll bind Kc valued callOp callAnswer clockAnswer tickAnswer pollTick told landing callTree successOf laidBefore laidRequest laidHeader laidAll listHeard listAt
+  call-is (CallPoint.Exchange g q) x w h = exchange-is g q x w h
+  call-is (CallPoint.Pause q) x w h = pause-is q (eventAt (CallPoint.Pause q) x w) w
+  call-is CallPoint.Clock (fault p) w h = refl
+  call-is CallPoint.Clock (val t T) w h = settle-is t (eventAt CallPoint.Clock (val t T) w) w
+  call-is CallPoint.Tick (fault p) w h = refl
+  call-is CallPoint.Tick (val t T) w h = refl
+  call-is (CallPoint.Poll q) x w h = poll-is q x w h
+  call-is (CallPoint.PollTick t) (fault p) w h = refl
+  call-is (CallPoint.PollTick t) (val n T) w h =
+      rw (timed-out-is t n w) (report-is (eventAt (CallPoint.PollTick t) (val n T) w) (withState w (timedOutState (w .st) t n)))
+  call-is (CallPoint.Send q) x w h = sent-is q x w h
