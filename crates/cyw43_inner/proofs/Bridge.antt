@@ -256,7 +256,7 @@ module _ (a : Args) (m : Modest a) where
       by WifiState.Disconnecting = tick-is (w .st .link .«disconnect_started_tick») e w
 
   -- a turn begins
-  polling-is : (h : Bool) (e : AsyncEvent) (s : State) (w : World) → unroll (loop Loop.pollLoop (world s (w .buf) (listHeard h e (w .list))) (past polled)) ≡ callShown a (pollingStep s h) e w
+  pub polling-is : (h : Bool) (e : AsyncEvent) (s : State) (w : World) → unroll (loop Loop.pollLoop (world s (w .buf) (listHeard h e (w .list))) (past polled)) ≡ callShown a (pollingStep s h) e w
   unfolding unroll pollingStep pollStart pollBy body bind callTree callOp secretAt pollOp secretly asking Kc Kp laidBefore laidRequest laidHeader laidAll listHeard listAt
   polling-is h e s w = by (hadPacket s)
     where
@@ -312,7 +312,7 @@ module _ (a : Args) (m : Modest a) where
 
   -- ---- send
 
-  sending-is : (h : Bool) (put : RequestPut) (n : SendNext) (e : AsyncEvent) (s : State) (w : World) → unroll (bind (sendTree (frameOut (a .job)) nowhere n (world s (laidRequest a put (w .buf)) (listHeard h e (w .list)))) (λ u. giving Success.Done)) ≡ callShown a (sendingNext s h put n) e w
+  pub sending-is : (h : Bool) (put : RequestPut) (n : SendNext) (e : AsyncEvent) (s : State) (w : World) → unroll (bind (sendTree (frameOut (a .job)) nowhere n (world s (laidRequest a put (w .buf)) (listHeard h e (w .list)))) (λ u. giving Success.Done)) ≡ callShown a (sendingNext s h put n) e w
   unfolding unroll bind sendTree sendingNext callTree callOp secretAt send.sendOp send.stallOp pollOp secretly asking Kc successOf laidBefore laidHeader laidAll listAt
   sending-is h put (SendNext.Ask p q) e s w =
       let v = world s (laidHeader p (laidRequest a put (w .buf))) (listHeard h e (w .list)) in
