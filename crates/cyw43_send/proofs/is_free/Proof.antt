@@ -13,7 +13,9 @@ returns c =
 
 returns-2 : tie.Need-returns-2
 unfolding free
-returns-2 c = simp (ne-eqb _ _ (c .if1 .left))
+returns-2 c =
+    let e : c .before .before .before .args .st .sdpcm .«wlan_flow_control» ≡ 0 → ⊥ = λ h. omega arith in
+    simp (ne-eqb _ _ e)
 
 pub is-free-spec : {M : Type 1} → statement M
 is-free-spec = tie.close (tie.spec returns returns-2)
