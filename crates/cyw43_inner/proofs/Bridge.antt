@@ -1,100 +1,66 @@
 -- A call's step is the tree's: at every point, for every answer, in every world.
-use mathlib.Core.Path.{_≡_, refl, sym, ap, _∙_, fun-ext}
-use mathlib.Core.Bool.{Bool, true, false, false≢true}
-use mathlib.Core.List.{List, [], _∷_}
-use Prim.Native.Nat.{ℕ, _+_, _-_, _*_, _%_, _≤_, _<_}
+use mathlib.Core.Path.{_≡_, refl, ap, _∙_}
+use mathlib.Core.Bool.{Bool, true, false}
+use Prim.Native.Nat.{ℕ, _-_, _*_, _%_}
 use native.Mathlib.Omega.{arith}
-use lib.Dec.{ltb}
-use lib.ListN.{length}
-use borrow.Author.Tests.{le-ltb}
+use lib.Dec.{ltb, leb}
 use Rattle.slices.specs.Pick.{pick}
-use Rattle.slices.specs.Over.{over}
-use Rattle.slices.specs.Le.{round4}
 use Rattle.cyw43_types.specs.declared.link.WifiState.{WifiState}
 use Rattle.cyw43_types.specs.declared.outcome.DriverError.{DriverError}
 use Rattle.cyw43_types.specs.declared.sdpcm.AsyncEvent.{AsyncEvent}
 use Rattle.cyw43_types.specs.declared.state.State.{State}
-use Rattle.cyw43_definition.specs.Bus.{Bytes, Op, Ans, Place}
-use Rattle.cyw43_definition.specs.Prog.{World, world, withState, withBuf, Fin, fine, failed, Prog, ret, stop, ask, say, note, M, bind, attempt, raise}
-use Rattle.cyw43_definition.specs.Request as def
-use Rattle.cyw43_definition.specs.Request.{ioctlHeader}
-use Rattle.cyw43_definition.specs.Send.{free}
-use Rattle.cyw43_definition.specs.Ioctl.{laid, nextId, doIoctl, exchange}
-use Rattle.cyw43_definition.specs.Poll.{Result, giving}
-use Rattle.cyw43_definition.specs.Join.{isDevError, ignoring, tried, downOnError, linked}
-use Rattle.cyw43_definition.proofs.Compose.{unroll, bind-assoc, bind-raise, opened}
-use Rattle.cyw43_events.specs.Handle.{listHeard}
-use Rattle.cyw43_requests.specs.declared.request.Request.{Request}
-use Rattle.cyw43_requests.specs.Request.{requestOf}
-use Rattle.cyw43_requests.specs.declared.request.IovarName.{IovarName}
-use Rattle.cyw43_requests.specs.declared.request.Request.{Request}
-use Rattle.cyw43_device.specs.Meaning.{opIn, asking}
-use Rattle.cyw43_send.specs.declared.HeaderPut.{HeaderPut}
-use Rattle.cyw43_send.specs.declared.SendNext.{SendNext}
-use Rattle.cyw43_send.specs.declared.SendPoint.{SendPoint}
-use Rattle.cyw43_send.specs.declared.StallPoint.{StallPoint}
-use Rattle.cyw43_send.specs.Send as send
-use Rattle.cyw43_send.specs.Meaning.{laidHeader}
-use Rattle.cyw43_ioctl.specs.declared.IoctlNext.{IoctlNext}
-use Rattle.cyw43_ioctl.specs.declared.IoctlPoint.{IoctlPoint}
-use Rattle.cyw43_ioctl.specs.Ioctl as ioctl
-use Rattle.cyw43_ioctl.specs.Meaning.{Ki, ioctlTree, ioctlShown}
-use Rattle.cyw43_inner.specs.declared.points.Job.{Job}
-use Rattle.cyw43_inner.specs.declared.points.Stage.{Stage}
-use Rattle.cyw43_inner.specs.declared.points.CallPoint.{CallPoint}
-use Rattle.cyw43_inner.specs.declared.points.Before.{Before}
-use Rattle.cyw43_inner.specs.declared.points.RequestPut.{RequestPut}
-use Rattle.cyw43_inner.specs.declared.points.CallNext.{CallNext}
-use Rattle.cyw43_inner.specs.declared.points.CallStep.{CallStep}
-use Rattle.cyw43_inner.specs.Steps.{callOp, lays, step, linkedState}
-use Rattle.cyw43_inner.specs.Stages.{requestAt, requestLen, isTried, isLast}
-use Rattle.cyw43_inner.specs.Meaning.{Args, lensOf, requestIn, lenAt, laidBefore, laidRequest, laidAll, listAt, rest, refusedAt, afterStage, Kc, secretAt, callTree, callShown, stepWorld}
-use Rattle.cyw43_definition.specs.Join.{security, pmkSet, saeSet, keyLaid, connecting}
-use Rattle.cyw43_definition.specs.Prog.{pause, operate, valued}
-use Rattle.cyw43_definition.specs.Calls.{settled, scanning}
-use Rattle.cyw43_definition.specs.Bus.{lowOf}
-use Rattle.cyw43_definition.specs.Send.{elapsed}
-use Rattle.cyw43_definition.specs.Poll.{failureReport, pollTurn, timedOut, disconnectTimeout, polled}
 use Rattle.cyw43_types.specs.declared.link.ConnectFailure.{ConnectFailure}
-use Rattle.cyw43_inner.specs.Poll.{pollingStep, polledStep, downReport, reportBy, reportStep, tickStep, nothingBy, nothingStep, held, frameStep, packetStep, nextStep, pollPoint, timedOutState, pollTick}
-use Rattle.cyw43_device.specs.Meaning.{secretly, InRange, landedWorld}
-use Rattle.cyw43_ioctl.specs.Meaning.{ioctlStepAt}
-use Rattle.cyw43_ioctl.proofs.Bridge as ioctl-bridge
-use Rattle.cyw43_inner.specs.Begin.{callAnswer}
-use Rattle.cyw43_inner.specs.Meaning.{eventAt, callStepAt}
-use Rattle.cyw43_inner.specs.declared.points.PausePoint.{PausePoint}
-use Rattle.cyw43_inner.specs.declared.points.Ending.{Ending}
-use Rattle.cyw43_inner.specs.Steps.{pauseNs, layBefore, asks, ends, refuses}
-use Rattle.cyw43_inner.specs.Exchange.{begins, beginsNumbered, saeStep, keyStep, lengthStep, connectingState, ssidStep, scanStep, afterStep, failedStep, exchangeNext, exchangeAnswer, pauseAnswer, settleStep, clockAnswer, disconnectingState, tickAnswer}
-use Rattle.cyw43_inner.specs.Meaning.{successOf, Kpause, fromInfra, afterKey, afterTmo, fromWsec, afterJoinBaWsize, ssidTried, afterWpaAuth, fromEventMessages}
-use Rattle.cyw43_inner.proofs.StageBridge.{Modest, len-fits, ask-is, plain-is, last-is, begin-is, begin-numbered-is, plain-begin, tried-begin}
-
-use mathlib.Core.Path.{_≡_}
 use Rattle.cyw43_types.specs.State.{withSdpcm, withLink}
 use Rattle.cyw43_types.specs.declared.link.StartedTick.{StartedTick}
 use Rattle.cyw43_types.specs.declared.outcome.Success.{Success}
 use Rattle.cyw43_types.specs.declared.outcome.WlanPollResult.{WlanPollResult}
 use Rattle.cyw43_types.specs.declared.sdpcm.SdpcmPacket.{SdpcmPacket}
-use lib.Dec.{leb}
-use Rattle.cyw43_definition.specs.Bus.{nowhere, fault, val}
-use Rattle.cyw43_definition.specs.Prog.{Turn, again, out, Loop, loop, turned}
+use Rattle.cyw43_definition.specs.Bus.{Op, Ans, lowOf, nowhere, fault, val}
+use Rattle.cyw43_definition.specs.Prog.{World, world, withState, Prog, ret, stop, ask, M, bind, attempt, raise, pause, operate, valued, again, out, Loop, loop, turned}
+use Rattle.cyw43_definition.specs.Send.{elapsed}
+use Rattle.cyw43_definition.specs.Ioctl.{laid, doIoctl, exchange}
+use Rattle.cyw43_definition.specs.Poll.{Result, giving, failureReport, pollTurn, timedOut, disconnectTimeout, polled, first, body, holding}
+use Rattle.cyw43_definition.specs.Join.{isDevError, downOnError, linked, security, pmkSet, saeSet, keyLaid}
+use Rattle.cyw43_definition.proofs.Compose.{unroll, opened, followed, lifted}
+use Rattle.cyw43_definition.specs.Calls.{settled}
 use Rattle.cyw43_definition.specs.Event.{released}
-use Rattle.cyw43_definition.specs.Device.{hadPacket, pollFirst, pollBy, statusRead, statusReads, interruptRead}
-use Rattle.cyw43_definition.specs.Poll.{first, body, holding}
-use Rattle.cyw43_definition.proofs.Compose.{followed, lifted}
-use Rattle.cyw43_events.specs.Handle.{handledOf}
+use Rattle.cyw43_definition.specs.Device.{hadPacket, pollBy, statusRead, statusReads, interruptRead}
+use Rattle.cyw43_definition.specs.Request as def
+use Rattle.cyw43_events.specs.Handle.{listHeard, handledOf}
+use Rattle.cyw43_requests.specs.declared.request.Request.{Request}
+use Rattle.cyw43_device.specs.Meaning.{opIn, asking, secretly, InRange, landedWorld, Kp, pollTree, pollStepAt, Tells, told, landing}
 use Rattle.cyw43_device.specs.declared.PollPoint.{PollPoint}
 use Rattle.cyw43_device.specs.declared.PollNext.{PollNext}
 use Rattle.cyw43_device.specs.Poll.{pollOp, pollStart}
-use Rattle.cyw43_device.specs.Meaning.{Kp, pollTree, pollStepAt, Tells, told, landing}
 use Rattle.cyw43_device.proofs.Asking.{asking-bind, unroll-asking}
-use Rattle.cyw43_device.proofs.Bridge as device-bridge
 use Rattle.cyw43_device.proofs.Bridge.{poll-tells}
+use Rattle.cyw43_device.proofs.Bridge as device-bridge
+use Rattle.cyw43_send.specs.declared.HeaderPut.{HeaderPut}
+use Rattle.cyw43_send.specs.declared.SendNext.{SendNext}
+use Rattle.cyw43_send.specs.declared.SendPoint.{SendPoint}
+use Rattle.cyw43_send.specs.Meaning.{laidHeader, past, Ks, sendTree, sendStepAt}
 use Rattle.cyw43_send.specs.Send.{stored}
-use Rattle.cyw43_send.specs.Meaning.{past, Ks, sendTree, sendStepAt}
-use Rattle.cyw43_send.proofs.Bridge as send-bridge
 use Rattle.cyw43_send.proofs.Bridge.{handled-is}
-use Rattle.cyw43_inner.specs.Begin.{frameOut, sendingNext, sendingStep}
+use Rattle.cyw43_send.specs.Send as send
+use Rattle.cyw43_send.proofs.Bridge as send-bridge
+use Rattle.cyw43_ioctl.specs.declared.IoctlNext.{IoctlNext}
+use Rattle.cyw43_ioctl.specs.declared.IoctlPoint.{IoctlPoint}
+use Rattle.cyw43_ioctl.specs.Meaning.{Ki, ioctlTree, ioctlStepAt}
+use Rattle.cyw43_ioctl.specs.Ioctl as ioctl
+use Rattle.cyw43_ioctl.proofs.Bridge as ioctl-bridge
+use Rattle.cyw43_inner.specs.declared.points.Stage.{Stage}
+use Rattle.cyw43_inner.specs.declared.points.CallPoint.{CallPoint}
+use Rattle.cyw43_inner.specs.declared.points.Before.{Before}
+use Rattle.cyw43_inner.specs.declared.points.RequestPut.{RequestPut}
+use Rattle.cyw43_inner.specs.declared.points.CallNext.{CallNext}
+use Rattle.cyw43_inner.specs.declared.points.PausePoint.{PausePoint}
+use Rattle.cyw43_inner.specs.Steps.{callOp, lays, step, linkedState, pauseNs, asks, refuses}
+use Rattle.cyw43_inner.specs.Stages.{requestAt, isTried, isLast}
+use Rattle.cyw43_inner.specs.Meaning.{Args, lensOf, requestIn, lenAt, laidBefore, laidRequest, laidAll, listAt, rest, refusedAt, afterStage, Kc, secretAt, callTree, callShown, eventAt, callStepAt, successOf, Kpause, fromInfra, afterKey, afterTmo, fromWsec, afterJoinBaWsize, afterWpaAuth, fromEventMessages}
+use Rattle.cyw43_inner.specs.Poll.{pollingStep, polledStep, downReport, reportBy, reportStep, tickStep, nothingBy, nothingStep, held, frameStep, packetStep, nextStep, pollPoint, timedOutState, pollTick}
+use Rattle.cyw43_inner.specs.Begin.{callAnswer, frameOut, sendingNext, sendingStep}
+use Rattle.cyw43_inner.specs.Exchange.{begins, saeStep, keyStep, lengthStep, connectingState, ssidStep, scanStep, afterStep, failedStep, exchangeNext, exchangeAnswer, pauseAnswer, settleStep, clockAnswer, tickAnswer}
+use Rattle.cyw43_inner.proofs.StageBridge.{Modest, len-fits, ask-is, plain-is, last-is, begin-is, begin-numbered-is, plain-begin, tried-begin}
 
 module _ (a : Args) (m : Modest a) where
   -- ---- what follows a stage

@@ -1,8 +1,6 @@
 -- Each stage's request, and what becomes of its errors.
 use Prim.Native.Nat.{ℕ, _%_}
 use mathlib.Core.Bool.{Bool, true, false}
-use lib.Dec.{ltb}
-use Rattle.slices.specs.Pick.{pick}
 use Rattle.cyw43_definition.specs.Join.{security}
 use Rattle.cyw43_requests.specs.declared.request.IovarName.{IovarName}
 use Rattle.cyw43_requests.specs.declared.request.Request.{Request}
@@ -39,9 +37,6 @@ requestAt j Stage.Ssid = Request.Ssid
 requestAt j Stage.Escan = Request.Escan
 requestAt j Stage.Disassoc = setting 52 0
 requestAt j Stage.Single = j .request
-
-unfoldable pub larger : ℕ → ℕ → ℕ
-larger n m = pick (ltb n m) m n
 
 unfoldable pub requestLen : Request → Lens → ℕ
 requestLen r l = payloadLength r (l .first) (l .second) % 65536

@@ -54,15 +54,18 @@ fn unbegun(st: State, g: Stage, heard: bool, lay: Lay, e: DriverError) -> CallSt
 {
     if is_dev_error(e) {
         if is_last(g) {
-            return step(
+            step(
                 linked(st, WifiState::Down),
                 heard,
                 lay,
                 CallNext::Refused(e),
-            );
+            )
+        } else {
+            step(st, heard, lay, CallNext::Refused(e))
         }
+    } else {
+        step(st, heard, lay, CallNext::Refused(e))
     }
-    step(st, heard, lay, CallNext::Refused(e))
 }
 
 fn begun(s: IoctlStep, g: Stage, heard: bool, before: Before, put: RequestPut) -> CallStep
@@ -252,13 +255,17 @@ fn failed(
 {
     if is_dev_error(e) {
         if is_tried(g) {
-            return after(j, l, g, st, heard, Before::Header(h));
+            after(j, l, g, st, heard, Before::Header(h))
+        } else {
+            if is_last(g) {
+                refuse(linked(st, WifiState::Down), heard, Before::Header(h), e)
+            } else {
+                refuse(st, heard, Before::Header(h), e)
+            }
         }
-        if is_last(g) {
-            return refuse(linked(st, WifiState::Down), heard, Before::Header(h), e);
-        }
+    } else {
+        refuse(st, heard, Before::Header(h), e)
     }
-    refuse(st, heard, Before::Header(h), e)
 }
 
 fn exchange_next(j: Job, l: Lens, g: Stage, st: State, heard: bool, n: IoctlNext) -> CallStep

@@ -1,5 +1,6 @@
 // Each stage's request.
 ghost use mathlib.Core.Path.{_≡_};
+ghost use Rattle.cyw43_requests.specs.Number.{larger};
 ghost use Rattle.cyw43_inner.specs.Stages as to;
 use crate::points::Job;
 use crate::points::Lens;
@@ -56,8 +57,8 @@ pub fn request_at(j: Job, s: Stage) -> Request
     }
 }
 
-fn larger(n: u32, m: u32) -> u32
-    ensures { λ r. ⌜ r ≡ to.larger n m ⌝ }
+fn larger(n: u16, m: u16) -> u16
+    ensures { λ r. ⌜ r ≡ larger n m ⌝ }
 {
     if n < m { m } else { n }
 }
@@ -85,9 +86,9 @@ pub fn request_len(r: Request, l: Lens) -> u16
         Request::Escan => 82,
         Request::CurrentAddress => 20,
         Request::Up => 0,
-        Request::Ssid => ((4 + larger(first, 32)) % 65536) as u16,
-        Request::Key => ((4 + larger(second, 64)) % 65536) as u16,
-        Request::SaePassword => ((15 + larger(second, 128)) % 65536) as u16,
+        Request::Ssid => ((4 + larger(l.first, 32) as u32) % 65536) as u16,
+        Request::Key => ((4 + larger(l.second, 64) as u32) % 65536) as u16,
+        Request::SaePassword => ((15 + larger(l.second, 128) as u32) % 65536) as u16,
         Request::Variable(_) => ((first + 1 + second) % 65536) as u16,
     }
 }
@@ -128,5 +129,30 @@ pub fn is_tried(s: Stage) -> bool
 pub fn is_last(s: Stage) -> bool
     ensures { λ r. ⌜ r ≡ to.isLast s ⌝ }
 {
-    if let Stage::Ssid = s { true } else { false }
+    match s {
+        Stage::Country => false,
+        Stage::AntDiv => false,
+        Stage::Txglom => false,
+        Stage::Apsta => false,
+        Stage::BaWsize => false,
+        Stage::Mpdu => false,
+        Stage::RxFactor => false,
+        Stage::EventMessages => false,
+        Stage::InitUp => false,
+        Stage::JoinBaWsize => false,
+        Stage::Wsec => false,
+        Stage::SupWpa => false,
+        Stage::Eapver => false,
+        Stage::SupWpaTmo => false,
+        Stage::Key => false,
+        Stage::Sae => false,
+        Stage::Infra => false,
+        Stage::Auth => false,
+        Stage::Mfp => false,
+        Stage::WpaAuth => false,
+        Stage::Ssid => true,
+        Stage::Escan => false,
+        Stage::Disassoc => false,
+        Stage::Single => false,
+    }
 }
