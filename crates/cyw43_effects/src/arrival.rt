@@ -24,7 +24,7 @@ fn event_from(buf: &[u8], offset: usize, len: u16) -> AsyncEvent
     read_event(&buf[offset..], len)
 }
 
-fn no_event() -> AsyncEvent
+pub fn no_event() -> AsyncEvent
     ensures { λ r. ⌜ r ≡ eventOf [] 0 ⌝ }
 {
     let none = [0; 0];

@@ -1,0 +1,53 @@
+-- What each call hands to the run beside its byte arguments.
+use Prim.Native.Nat.{ℕ, _+_}
+use mathlib.Core.Bool.{Bool, true, false}
+use mathlib.Core.List.{[]}
+use Rattle.cyw43_types.specs.declared.link.WifiAuth.{WifiAuth}
+use Rattle.cyw43_types.specs.declared.outcome.DriverError.{DriverError}
+use Rattle.cyw43_types.specs.declared.state.State.{State}
+use Rattle.cyw43_definition.specs.Bus.{Bytes}
+use Rattle.cyw43_definition.specs.Prog.{World, Prog, stop}
+use Rattle.cyw43_definition.specs.Poll.{Result}
+use Rattle.cyw43_requests.specs.declared.request.Request.{Request}
+use Rattle.cyw43_inner.specs.declared.points.Ending.{Ending}
+use Rattle.cyw43_inner.specs.declared.points.Job.{Job}
+use Rattle.cyw43_inner.specs.declared.points.Lens.{Lens}
+use Rattle.cyw43_inner.specs.declared.points.CallStep.{CallStep}
+use Rattle.cyw43_inner.specs.declared.points.Stage.{Stage}
+use Rattle.cyw43_inner.specs.Begin.{exchangesStep}
+use Rattle.cyw43_inner.specs.Meaning.{Args, lensOf}
+use Rattle.cyw43_effects.specs.Args.{argsOf}
+
+abbrev jobOf : ℕ → WifiAuth → Bool → Bool → ℕ → Request → Ending → Job
+jobOf c a p s n r e =
+    record { country = c; auth = a; «long_passphrase» = p; «long_ssid» = s; size = n; request = r; ending = e }
+
+abbrev pub noJob : Job
+noJob = jobOf 0 WifiAuth.Open false false 0 Request.Up Ending.Done
+
+abbrev pub initJob : ℕ → Job
+initJob country = jobOf country WifiAuth.Open false false 0 Request.Up Ending.Done
+
+abbrev pub joinJob : WifiAuth → Bool → Bool → Job
+joinJob auth longPassphrase longSsid = jobOf 0 auth longPassphrase longSsid 0 Request.Up Ending.Done
+
+-- a frame's packet has 18 bytes before it
+abbrev pub frameJob : ℕ → Job
+frameJob n = jobOf 0 WifiAuth.Open false false (18 + n) Request.Up Ending.Done
+
+abbrev pub requestJob : Request → Ending → Job
+requestJob r e = jobOf 0 WifiAuth.Open false false 0 r e
+
+-- without byte arguments
+abbrev pub plain : Job → Args
+plain j = argsOf j [] []
+
+abbrev pub noLens : Lens
+noLens = record { first = 0; second = 0 }
+
+-- the step that begins the exchange of a request
+abbrev pub singleStep : Request → Ending → Bytes → Bytes → State → CallStep
+singleStep r e first second s = exchangesStep (requestJob r e) (lensOf (argsOf (requestJob r e) first second)) Stage.Single s
+
+abbrev pub refused : DriverError → World → Prog Result
+refused x w = stop x w

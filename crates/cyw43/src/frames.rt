@@ -1,0 +1,105 @@
+// send and take.
+use crate::jobs::frame_job;
+use crate::jobs::invalid_arg;
+use cyw43_inner::begin::frame_start;
+use cyw43_requests::request::is_interface;
+use cyw43_run::call::call_from;
+use cyw43_run::standing::CallEnd;
+use cyw43_types::outcome::DriverError;
+use cyw43_types::outcome::Outcome;
+use cyw43_types::outcome::Refusal;
+use cyw43_types::outcome::Success;
+use cyw43_types::pending::PendingBuf;
+use cyw43_types::pending::PendingRx;
+use cyw43_types::scan::ScanList;
+use cyw43_types::state::State;
+use cyw43_types::state::set_frame;
+use cyw43_types::state::with_pending;
+ghost use mathlib.Core.Path.{_≡_};
+ghost use mathlib.Core.List.{List, []};
+ghost use Prim.Native.Nat.{ℕ};
+ghost use lib.ListN.{length};
+ghost use Rattle.cyw43_definition.specs.Prog.{world};
+ghost use Rattle.cyw43_definition.specs.Calls.{Call};
+ghost use Rattle.cyw43_definition.specs.Run.{called};
+ghost use Rattle.cyw43_run.specs.Onward.{endOf};
+ghost use Rattle.cyw43.specs.Take as to;
+
+pub fn send_data(
+    interface: u32,
+    frame: &[u8],
+    st: State,
+    list: ScanList,
+    rec: &[u32],
+    log: &mut [u32],
+    buf: &mut [u8],
+) -> CallEnd
+    ensures { λ r. ⌜ endOf r (now (log .exit)) (now (buf .exit)) [] ≡ called (Call.sendData interface (now (frame .entry))) (world st (now (buf .entry)) list) (now (rec .entry)) (now (log .entry)) [] ⌝ }
+{
+    if is_interface(interface) {
+        if frame.len() <= 2030 {
+            let j = frame_job(frame.len());
+            let s = frame_start(j, interface as u8, st);
+            let none = [0u8; 0];
+            return call_from(s, j, frame, &none, st, list, rec, log, buf);
+        }
+        return invalid_arg(st, list, rec, log, buf);
+    }
+    invalid_arg(st, list, rec, log, buf)
+}
+
+fn ended(o: Outcome, st: State, list: ScanList) -> CallEnd
+    ensures { λ r. ⌜ r ≡ to.ended o st list ⌝ }
+{
+    CallEnd {
+        outcome: o,
+        st: st,
+        list: list,
+        len: 0,
+    }
+}
+
+fn driver_error(e: DriverError, st: State, list: ScanList) -> CallEnd
+    ensures { λ r. ⌜ r ≡ to.driverError e st list ⌝ }
+{
+    ended(Outcome::Refused(Refusal::Driver(e)), st, list)
+}
+
+fn frameless(st: State) -> State
+    ensures { λ r. ⌜ r ≡ to.framelessState st ⌝ }
+{
+    let p = st.pending;
+    with_pending(st, set_frame(p, PendingRx::None))
+}
+
+// A frame that waits is given out, or dropped.
+fn take_frame(f: PendingBuf, st: State, list: ScanList, buf: &[u8], out: &mut [u8]) -> CallEnd
+    ensures { λ r. ⌜ ((log : List ℕ) → endOf r log (now (buf .entry)) (now (out .exit)) ≡ to.frameTaken f (world st (now (buf .entry)) list) log (now (out .entry))) ⌝ }
+{
+    let s = frameless(st);
+    let n = f.len as usize;
+    let offset = f.offset as usize;
+    if out.len() < n {
+        return driver_error(DriverError::NoMem, s, list);
+    }
+    if buf.len() < offset + n {
+        return driver_error(DriverError::PastBuffer, s, list);
+    }
+    slices::copy_over(out, 0, &buf[offset..offset + n]);
+    ended(Outcome::Ok(Success::Taken(f.len)), s, list)
+}
+
+// The recording is not read, and no operation logged.
+pub fn get_rx_buf(st: State, list: ScanList, buf: &[u8], out: &mut [u8]) -> CallEnd
+    ensures { λ r. ⌜ ((rec log : List ℕ) → endOf r log (now (buf .entry)) (now (out .exit)) ≡ called (Call.getRxBuf (length (now (out .entry)))) (world st (now (buf .entry)) list) rec log (now (out .entry))) ⌝ }
+{
+    if buf.len() != 2048 {
+        return ended(Outcome::Refused(Refusal::BufferLength), st, list);
+    }
+    let p = st.pending;
+    let rx = p.rx;
+    match rx {
+        PendingRx::None => driver_error(DriverError::WouldBlock, st, list),
+        PendingRx::Some(f) => take_frame(f, st, list, buf, out),
+    }
+}

@@ -1,0 +1,148 @@
+// What each call hands to the run beside its byte arguments, and the run of a call without any.
+use cyw43_inner::begin::exchanges;
+use cyw43_inner::points::Before;
+use cyw43_inner::points::CallStep;
+use cyw43_inner::points::Ending;
+use cyw43_inner::points::Job;
+use cyw43_inner::points::Lens;
+use cyw43_inner::points::Stage;
+use cyw43_inner::steps::refuse;
+use cyw43_requests::request::Request;
+use cyw43_run::call::call_from;
+use cyw43_run::standing::CallEnd;
+use cyw43_types::link::WifiAuth;
+use cyw43_types::outcome::DriverError;
+use cyw43_types::scan::ScanList;
+use cyw43_types::state::State;
+ghost use mathlib.Core.Path.{_≡_};
+ghost use mathlib.Core.List.{List, []};
+ghost use Prim.Native.Nat.{ℕ, _≤_};
+ghost use lib.ListN.{length};
+ghost use Rattle.cyw43_definition.specs.Event.{eventOf};
+ghost use Rattle.cyw43_definition.specs.Prog.{Prog, world};
+ghost use Rattle.cyw43_definition.specs.Poll.{Result};
+ghost use Rattle.cyw43_definition.specs.Run.{called};
+ghost use Rattle.cyw43_definition.specs.Calls.{Call};
+ghost use Rattle.cyw43_definition.proofs.Compose.{unroll};
+ghost use Rattle.cyw43_inner.specs.Meaning.{callShown};
+ghost use Rattle.cyw43_run.specs.Onward.{endOf, calledBy};
+ghost use Rattle.cyw43.specs.Jobs as to;
+
+pub fn no_job() -> Job
+    ensures { λ r. ⌜ r ≡ to.noJob ⌝ }
+{
+    request_job(Request::Up, Ending::Done)
+}
+
+pub fn request_job(r: Request, e: Ending) -> Job
+    ensures { λ j. ⌜ j ≡ to.requestJob r e ⌝ }
+{
+    Job {
+        country: 0,
+        auth: WifiAuth::Open,
+        long_passphrase: false,
+        long_ssid: false,
+        size: 0,
+        request: r,
+        ending: e,
+    }
+}
+
+pub fn init_job(country: u32) -> Job
+    ensures { λ j. ⌜ j ≡ to.initJob country ⌝ }
+{
+    Job {
+        country: country,
+        auth: WifiAuth::Open,
+        long_passphrase: false,
+        long_ssid: false,
+        size: 0,
+        request: Request::Up,
+        ending: Ending::Done,
+    }
+}
+
+pub fn join_job(auth: WifiAuth, long_passphrase: bool, long_ssid: bool) -> Job
+    ensures { λ j. ⌜ j ≡ to.joinJob auth long_passphrase long_ssid ⌝ }
+{
+    Job {
+        country: 0,
+        auth: auth,
+        long_passphrase: long_passphrase,
+        long_ssid: long_ssid,
+        size: 0,
+        request: Request::Up,
+        ending: Ending::Done,
+    }
+}
+
+pub fn frame_job(len: usize) -> Job
+    requires { ⌜ len ≤ 2030 ⌝ }
+    ensures { λ j. ⌜ j ≡ to.frameJob len ⌝ }
+{
+    Job {
+        country: 0,
+        auth: WifiAuth::Open,
+        long_passphrase: false,
+        long_ssid: false,
+        size: 18 + len as u16,
+        request: Request::Up,
+        ending: Ending::Done,
+    }
+}
+
+pub fn no_lens() -> Lens
+    ensures { λ l. ⌜ l ≡ to.noLens ⌝ }
+{
+    Lens {
+        first: 0,
+        second: 0,
+    }
+}
+
+// s: the first step of a call without byte arguments.
+pub fn plain_call(
+    s: CallStep,
+    j: Job,
+    st: State,
+    list: ScanList,
+    rec: &[u32],
+    log: &mut [u32],
+    buf: &mut [u8],
+) -> CallEnd
+    ensures { λ r. ⌜ ((p : Prog Result) → unroll p ≡ callShown (to.plain j) s (eventOf [] 0) (world st (now (buf .entry)) list) → endOf r (now (log .exit)) (now (buf .exit)) [] ≡ calledBy (world st (now (buf .entry)) list) (now (rec .entry)) (now (log .entry)) p) ⌝ }
+{
+    let none = [0u8; 0];
+    call_from(s, j, &none, &none, st, list, rec, log, buf)
+}
+
+// A call that is one exchange, of a request without byte arguments.
+pub fn exchange_call(
+    r: Request,
+    e: Ending,
+    st: State,
+    list: ScanList,
+    rec: &[u32],
+    log: &mut [u32],
+    buf: &mut [u8],
+) -> CallEnd
+    ensures { λ x. ⌜ ((p : Prog Result) → unroll p ≡ callShown (to.plain (to.requestJob r e)) (to.singleStep r e [] [] st) (eventOf [] 0) (world st (now (buf .entry)) list) → endOf x (now (log .exit)) (now (buf .exit)) [] ≡ calledBy (world st (now (buf .entry)) list) (now (rec .entry)) (now (log .entry)) p) ⌝ }
+{
+    let j = request_job(r, e);
+    let s = exchanges(j, no_lens(), Stage::Single, st);
+    plain_call(s, j, st, list, rec, log, buf)
+}
+
+// Arguments that are refused: 13 comes first.
+pub fn invalid_arg(
+    st: State,
+    list: ScanList,
+    rec: &[u32],
+    log: &mut [u32],
+    buf: &mut [u8],
+) -> CallEnd
+    ensures { λ r. ⌜ endOf r (now (log .exit)) (now (buf .exit)) [] ≡ calledBy (world st (now (buf .entry)) list) (now (rec .entry)) (now (log .entry)) (to.refused DriverError.InvalidArg (world st (now (buf .entry)) list)) ⌝ }
+{
+    let s = refuse(st, false, Before::None, DriverError::InvalidArg);
+    plain_call(s, no_job(), st, list, rec, log, buf)
+}
