@@ -8,7 +8,7 @@ use native.Mathlib.Omega.{arith}
 use lib.Dec.{leb}
 use lib.ListN.{length, drop, getD, length-drop}
 use lib.Seq.{drop-drop}
-use borrow.Author.Tests.{le-leb, lt-leb, eq-eqb}
+use borrow.Author.Tests.{le-leb, lt-leb, eq-eqb, ne-eqb}
 use Rattle.slices.specs.Pick.{pick}
 use Rattle.slices.specs.Over.{over}
 use Rattle.slices.proofs.Over.{over-nil}
@@ -38,6 +38,7 @@ use Rattle.cyw43_inner.proofs.StageBridge.{Modest}
 use Rattle.cyw43_inner.proofs.Bridge.{call-is}
 use Rattle.cyw43_effects.specs.Answer.{answerIn, isWait}
 use Rattle.cyw43_run.specs.declared.standing.RunNext.{RunNext}
+use Rattle.cyw43_run.specs.declared.standing.Running.{Running}
 use Rattle.cyw43_run.specs.Onward.{finish, go, heard, responded, onwardBy, onward, standing, nextIn, stepped, stepAt, eventIn, isOn, leftBy, endOf, calledBy}
 use Rattle.cyw43_run.proofs.Going.{go-unroll, go-ret, go-stop, go-ask, go-say}
 
@@ -170,6 +171,10 @@ module _ (a : Args) (e : World) (rec log : List ℕ) (pos len : ℕ) where
       ∙ (rw hb (ap (λ t. go e (drop pos rec) log len t) (sym (call-is a m p y w r)))
       ∙ go-unroll e (drop pos rec) log len (Kc a p y w))
 
+  -- the same of the code's own values
+  pub proceeded : Modest a → (p : CallPoint) (x : BusAnswer) (y : Ans) (st : State) (l : ScanList) (b₀ b b′ : Bytes) (r : Running) → r ≡ stepped (stepAt a p x st b) (eventIn p st b) l pos len b′ → b′ ≡ laidAll a (stepAt a p x st b .lay) b → x ≡ told y → InRange (callOp p) y → b ≡ landing (callOp p) y b₀ → onward e a rec r log b′ ≡ go e (drop pos rec) log len (Kc a p y (world st b₀ l))
+  proceeded m p x y st l b₀ b b′ r hr hl hx h hb = rw (hr, hx) (bridged m p y st l b₀ b b′ h hb (rw hx at hl))
+
 -- an operation has a word or more
 pub words-pos : (q : Op) → 1 ≤ length (wordsOf q)
 unfolding wordsOf
@@ -183,10 +188,40 @@ words-pos (Op.writeInterrupt v) = omega arith
 words-pos Op.frameControl = omega arith
 words-pos (Op.wait ns) = omega arith
 
+-- ---- a wait
+
+pub wait-range : (op : BusOp) → isWait op ≡ true → InRange op (val 0 [])
+unfolding isWait InRange
+wait-range BusOp.ReadInterrupt h = omega arith
+wait-range BusOp.ReadStatus h = omega arith
+wait-range (BusOp.ReadPacket n) h = tt
+wait-range BusOp.ReadClock h = tt
+wait-range BusOp.ReadTick h = tt
+wait-range (BusOp.WritePacket n) h = tt
+wait-range (BusOp.WriteInterrupt v) h = tt
+wait-range BusOp.FrameControl h = tt
+wait-range (BusOp.Wait ns) h = tt
+
+-- nothing lands
+pub wait-lands : (op : BusOp) (b : Bytes) → isWait op ≡ true → b ≡ landing op (val 0 []) b
+unfolding isWait landing
+wait-lands BusOp.ReadInterrupt b h = refl
+wait-lands BusOp.ReadStatus b h = refl
+wait-lands (BusOp.ReadPacket n) b h = absurd (let z : _≡_ {A = ℕ} 0 1 = cc in omega arith)
+wait-lands BusOp.ReadClock b h = refl
+wait-lands BusOp.ReadTick b h = refl
+wait-lands (BusOp.WritePacket n) b h = refl
+wait-lands (BusOp.WriteInterrupt v) b h = refl
+wait-lands BusOp.FrameControl b h = refl
+wait-lands (BusOp.Wait ns) b h = refl
+
 -- ---- the words after an answer
 
 pub rest-is : (rec : List ℕ) (pos : ℕ) → restOf (drop pos rec) ≡ drop (pos + sizeOf (getD rec pos 0)) rec
 rest-is rec pos = rw (head-at rec pos) (drop-drop (sizeOf (getD rec pos 0)) pos rec)
+
+pub rest-go : (e : World) (rec log : List ℕ) (pos len used : ℕ) (p : Prog Result) → used ≡ sizeOf (getD rec pos 0) → go e (drop (pos + used) rec) log len p ≡ go e (restOf (drop pos rec)) log len p
+rest-go e rec log pos len used p h = rw (rest-is rec pos, h)
 
 -- an answer that was taken is there
 pub got-whole : (op : BusOp) (rec : List ℕ) (pos : ℕ) (x : BusAnswer) → Taken.Got x ≡ takenOf (opOf op []) (drop pos rec) → pos + sizeOf (getD rec pos 0) ≤ length rec
@@ -219,3 +254,12 @@ left-most k (RunNext.Back r) = omega arith
 pub from-start : (w : World) (rec log : List ℕ) (p : Prog Result) → length (w .buf) ≡ 2048 → go w (drop 0 rec) log 0 p ≡ calledBy w rec log p
 unfolding go finish calledBy shown
 from-start w rec log p h = rw (eq-eqb (length (w .buf)) 2048 h, zero-add, sub-zero)
+
+-- a tree whose front is known
+pub called-from : (w : World) (rec log : List ℕ) (p t : Prog Result) → length (w .buf) ≡ 2048 → unroll p ≡ t → go w (drop 0 rec) log 0 t ≡ calledBy w rec log p
+called-from w rec log p t h u = ap (go w (drop 0 rec) log 0) (sym u) ∙ (go-unroll w (drop 0 rec) log 0 p ∙ from-start w rec log p h)
+
+-- 13
+pub called-13 : (w : World) (rec log : List ℕ) (p : Prog Result) → (length (w .buf) ≡ 2048 → ⊥) → endOf (record { outcome = Outcome.Refused Refusal.BufferLength; st = w .st; list = w .list; len = 0 }) log (w .buf) [] ≡ calledBy w rec log p
+unfolding calledBy shown logOf over
+called-13 w rec log p h = rw (ne-eqb (length (w .buf)) 2048 h, over-nil log 0)
