@@ -63,7 +63,7 @@ pub fn init_job(country: u32) -> Job
 }
 
 pub fn join_job(auth: WifiAuth, long_passphrase: bool, long_ssid: bool) -> Job
-    ensures { λ j. ⌜ j ≡ to.joinJob auth long_passphrase long_ssid ⌝ }
+    ensures { λ j. ⌜ j ≡ to.joinJob auth «long_passphrase» «long_ssid» ⌝ }
 {
     Job {
         country: 0,

@@ -1,0 +1,37 @@
+use Prim.Native.Nat.{_-_}
+use borrow.Author.Needs.{needs}
+use Rattle.cyw43.proofs.jobs.exchange_call.Statement.{statement}
+use Rattle.cyw43.proofs.jobs.exchange_call.Tie as tie
+
+request-job-requires : tie.Need-request-job-requires
+request-job-requires c κs = search needs
+
+no-lens-requires : tie.Need-no-lens-requires
+no-lens-requires c κs = search needs
+
+exchanges-requires : tie.Need-exchanges-requires
+exchanges-requires c κs = search needs
+
+plain-call-requires : tie.Need-plain-call-requires
+plain-call-requires c κs = search needs
+
+same-length : tie.Need-same-length
+same-length c = search needs
+
+same-length-2 : tie.Need-same-length-2
+same-length-2 c = search needs
+
+returns : tie.Need-returns
+returns c = λ p h. c .before .before .before .before .plain-call .ensures p (rw (c .before .before .before .before .before .before .before .exchanges .ensures, c .before .before .before .before .before .before .before .before .no-lens .ensures, c .before .before .before .before .before .before .before .before .before .request-job .ensures) h)
+
+pub exchange-call-spec : {M : Type 1} → statement M
+exchange-call-spec =
+    tie.close
+    (tie.spec
+    request-job-requires
+    no-lens-requires
+    exchanges-requires
+    plain-call-requires
+    same-length
+    same-length-2
+    returns)
