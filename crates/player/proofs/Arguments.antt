@@ -1,0 +1,56 @@
+-- The laws of a call's arguments: of `nameLength`, and of what the tests leave room for.
+use mathlib.Core.Path.{_≡_, refl}
+use mathlib.Core.Bool.{Bool, true, false, _&&_}
+use mathlib.Core.List.{List, [], _∷_}
+use Prim.Native.Nat.{ℕ, zero, suc, _+_, _-_, _≤_, _<_}
+use native.Mathlib.Omega.{arith}
+use lib.Dec.{ltb, leb}
+use lib.ListN.{length, take, drop, getD, length-drop, drop-of-length-le}
+use borrow.Author.Tests.{ltb-true, leb-true}
+use Rattle.slices.specs.Le.{le32At}
+use Rattle.slices.proofs.Over.{part-rest}
+use lib.Seq.{drop-cons}
+use Rattle.cyw43_definition.specs.Player.{nameLength}
+use Rattle.player.specs.Input.{isCall}
+
+both : (s t : Bool) → (s && t) ≡ true → (s ≡ true) × (t ≡ true)
+both true true h = (refl, refl)
+both true false h = (refl, h)
+both false t h = absurd (let z : _≡_ {A = ℕ} 0 1 = cc in omega arith)
+
+pub call-above : (h : ℕ) → isCall h ≡ true → 0xF0000000 < h
+call-above h e = ltb-true 0xF0000000 h (both (ltb 0xF0000000 h) (leb h 0xF000000E) e .0)
+
+name-cons : (x : ℕ) (s : List ℕ) → (x ≡ 0 → ⊥) → nameLength (x ∷ s) ≡ suc (nameLength s)
+unfolding nameLength
+name-cons zero s h = absurd (h refl)
+name-cons (suc x) s h = refl
+
+-- i bytes stand before what is left, and no zero among them
+pub name-more : (s : List ℕ) (i : ℕ) → i < length s → (getD s i 0 ≡ 0 → ⊥) → nameLength (drop i s) ≡ suc (nameLength (drop (suc i) s))
+name-more s i l h = rw (drop-cons s i 0 l) (name-cons (getD s i 0) (drop (suc i) s) h)
+
+pub name-zero : (s : List ℕ) (i : ℕ) → i < length s → getD s i 0 ≡ 0 → nameLength (drop i s) ≡ 0
+unfolding nameLength
+name-zero s i l h = rw (drop-cons s i 0 l, h)
+
+pub name-end : (s : List ℕ) (i : ℕ) → length s ≤ i → nameLength (drop i s) ≡ 0
+unfolding nameLength
+name-end s i l = rw (drop-of-length-le s l)
+
+-- ---- join: the SSID is there
+
+pub join-room : (a : List ℕ) (n : ℕ) → n ≡ le32At a 4 → (leb 8 (length a) && leb (8 + le32At a 4) (length a)) ≡ true → 8 + n ≤ length a
+join-room a n e h = rw e (leb-true (8 + le32At a 4) (length a) (both (leb 8 (length a)) (leb (8 + le32At a 4) (length a)) h .1))
+
+-- ---- variable: the zero is there
+
+pub variable-long : (a : List ℕ) → (leb 4 (length a) && ltb (nameLength (drop 4 a)) (length (drop 4 a))) ≡ true → 4 ≤ length a
+variable-long a h = leb-true 4 (length a) (both (leb 4 (length a)) (ltb (nameLength (drop 4 a)) (length (drop 4 a))) h .0)
+
+pub variable-room : (a : List ℕ) (n : ℕ) → n ≡ nameLength (take (length a - 4) (drop 4 a))
+    → (leb 4 (length a) && ltb (nameLength (drop 4 a)) (length (drop 4 a))) ≡ true → 5 + n ≤ length a
+variable-room a n e h =
+    let l : nameLength (drop 4 a) < length (drop 4 a) = ltb-true _ _ (both (leb 4 (length a)) (ltb (nameLength (drop 4 a)) (length (drop 4 a))) h .1) in
+    let m : n ≡ nameLength (drop 4 a) = rw part-rest at e in
+    omega (arith, length-drop 4 a)
