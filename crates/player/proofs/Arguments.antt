@@ -1,15 +1,19 @@
 -- The laws of a call's arguments: of `nameLength`, and of what the tests leave room for.
-use mathlib.Core.Path.{_≡_, refl}
+use mathlib.Core.Path.{_≡_, refl, ap}
 use mathlib.Core.Bool.{Bool, true, false, _&&_}
 use mathlib.Core.List.{List, [], _∷_}
 use Prim.Native.Nat.{ℕ, zero, suc, _+_, _-_, _≤_, _<_}
 use native.Mathlib.Omega.{arith}
 use lib.Dec.{ltb, leb}
-use lib.ListN.{length, take, drop, getD, length-drop, drop-of-length-le}
+use lib.ListN.{length, take, drop, getD, replicate, length-drop, drop-of-length-le}
 use borrow.Author.Tests.{ltb-true, leb-true}
 use Rattle.slices.specs.Le.{le32At}
-use Rattle.slices.proofs.Over.{part-rest}
+use Rattle.slices.proofs.Over.{part-rest, over-nil}
 use lib.Seq.{drop-cons}
+use Rattle.cyw43_types.specs.declared.outcome.Outcome.{Outcome}
+use Rattle.cyw43_definition.specs.Bus.{logOf}
+use Rattle.cyw43_definition.specs.Prog.{World}
+use Rattle.cyw43_definition.specs.Run.{finished, shown}
 use Rattle.cyw43_definition.specs.Player.{nameLength}
 use Rattle.player.specs.Input.{isCall}
 
@@ -54,3 +58,18 @@ variable-room a n e h =
     let l : nameLength (drop 4 a) < length (drop 4 a) = ltb-true _ _ (both (leb 4 (length a)) (ltb (nameLength (drop 4 a)) (length (drop 4 a))) h .1) in
     let m : n ≡ nameLength (drop 4 a) = rw part-rest at e in
     omega (arith, length-drop 4 a)
+
+-- ---- a call's room, and its end where the arguments are bad
+
+take-zeros : (n m : ℕ) → n ≤ m → take {A = ℕ} n (replicate m 0) ≡ replicate n 0
+take-zeros zero m h = refl
+take-zeros (suc n) zero h = absurd (omega arith)
+take-zeros (suc n) (suc m) h = ap (λ (l : List ℕ). 0 ∷ l) (take-zeros n m (omega arith))
+
+pub output-zeros : (n k : ℕ) (zs : List ℕ) → zs ≡ replicate 2048 0 → n ≡ k → k ≤ 2048 → take n zs ≡ replicate k 0
+output-zeros n k zs e ek h = rw (e, ek) (take-zeros k 2048 h)
+
+pub ended : (o : Outcome) (w : World) (log out : List ℕ)
+    → record { outcome = o; st = w .st; list = w .list; buf = w .buf; log = log; len = 0; output = out } ≡ shown log out (finished o [] w)
+unfolding shown logOf
+ended o w log out = rw (over-nil, over-nil)

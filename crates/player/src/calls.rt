@@ -7,15 +7,21 @@ use cyw43_types::scan::ScanList;
 use cyw43_types::state::State;
 use slices::get_le32;
 ghost use mathlib.Core.Path.{_≡_};
-ghost use mathlib.Core.Bool.{true, _&&_};
-ghost use Prim.Native.Nat.{_+_};
-ghost use lib.Dec.{ltb, leb, eqb};
-ghost use lib.ListN.{length, drop};
+ghost use mathlib.Core.Bool.{_&&_};
+ghost use mathlib.Core.List.{List};
+ghost use Prim.Native.Nat.{ℕ, _+_};
+ghost use lib.Dec.{ltb, leb};
+ghost use lib.ListN.{length, drop, replicate};
 ghost use Rattle.slices.specs.Le.{le32At};
-ghost use Rattle.cyw43_definition.specs.Player.{nameLength};
+ghost use Rattle.cyw43_definition.specs.Prog.{world};
+ghost use Rattle.cyw43_definition.specs.Player.{nameLength, playedCall, badArguments};
+ghost use Rattle.player.specs.End.{endOf};
+ghost use Rattle.player.specs.Input.{outputLength};
 
 // Bad arguments: nothing is changed.
-fn refused(st: State, list: ScanList) -> CallEnd {
+fn refused(st: State, list: ScanList) -> CallEnd
+    ensures { λ r. ⌜ ((rec buf out : List ℕ) → endOf r (replicate 8192 0) buf out ≡ playedCall (world st buf list) rec out badArguments) ⌝ }
+{
     CallEnd {
         outcome: Outcome::Refused(Refusal::Driver(DriverError::InvalidArg)),
         st: st,
@@ -231,7 +237,7 @@ fn plain(
     }
 }
 
-// The call of that number.
+// The call of that number, on an empty log and an output of zeros.
 pub fn play_call(
     call: u32,
     args: &[u8],
@@ -241,7 +247,10 @@ pub fn play_call(
     log: &mut [u32],
     buf: &mut [u8],
     out: &mut [u8],
-) -> CallEnd {
+) -> CallEnd
+    requires { ⌜ now log ≡ replicate 8192 0 ⌝ }
+    requires { ⌜ now out ≡ replicate (outputLength call (now args)) 0 ⌝ }
+{
     match call {
         1 => init(args, st, list, rec, log, buf),
         3 => join(args, st, list, rec, log, buf),

@@ -1,6 +1,7 @@
 -- <<
 use native.Mathlib.Omega.{arith}
 use lib.ListN.{length-take}
+use Rattle.player.proofs.Arguments.{output-zeros}
 -- >>
 use borrow.Author.Needs.{needs}
 use Rattle.player.proofs.play.Statement.{statement}
@@ -40,7 +41,7 @@ slice-aggregate-play-call-2 c = simp length-take (omega arith)
 
 -- src/main.rt:67:9
 play-call-requires : tie.Need-play-call-requires
-play-call-requires c κs = search needs
+play-call-requires c κs = (c .before .before .before .before .before .before .before .log-words .ensures .0, output-zeros _ _ _ (c .before .before .before .before .before .before .zero-bytes .ensures .0) (c .before .before .before .output-length .ensures) (c .before .before .before .before .before .before .before .before .before .before .before .before .pre .0))
 
 -- src/main.rt:68:44
 slice-aggregate-put-lines : tie.Need-slice-aggregate-put-lines
