@@ -1,5 +1,5 @@
 -- The laws of a call's arguments: of `nameLength`, and of what the tests leave room for.
-use mathlib.Core.Path.{_≡_, refl, ap}
+use mathlib.Core.Path.{_≡_, refl, ap, sym, _∙_}
 use mathlib.Core.Bool.{Bool, true, false, _&&_}
 use mathlib.Core.List.{List, [], _∷_}
 use Prim.Native.Nat.{ℕ, zero, suc, _+_, _-_, _≤_, _<_}
@@ -7,6 +7,7 @@ use native.Mathlib.Omega.{arith}
 use lib.Dec.{ltb, leb}
 use lib.ListN.{length, take, drop, getD, replicate, length-drop, drop-of-length-le}
 use borrow.Author.Tests.{ltb-true, leb-true}
+use Rattle.slices.specs.Pick.{pick}
 use Rattle.slices.specs.Le.{le32At}
 use Rattle.slices.proofs.Over.{part-rest, over-nil}
 use lib.Seq.{drop-cons}
@@ -14,8 +15,9 @@ use Rattle.cyw43_types.specs.declared.outcome.Outcome.{Outcome}
 use Rattle.cyw43_definition.specs.Bus.{logOf}
 use Rattle.cyw43_definition.specs.Prog.{World}
 use Rattle.cyw43_definition.specs.Run.{finished, shown}
-use Rattle.cyw43_definition.specs.Player.{nameLength}
-use Rattle.player.specs.Input.{isCall}
+use Rattle.cyw43_definition.specs.Calls.{Call}
+use Rattle.cyw43_definition.specs.Player.{callWith, badArguments, nameLength, joinOf, variableOf}
+use Rattle.player.specs.Input.{isCall, complete}
 
 both : (s t : Bool) → (s && t) ≡ true → (s ≡ true) × (t ≡ true)
 both true true h = (refl, refl)
@@ -42,20 +44,43 @@ pub name-end : (s : List ℕ) (i : ℕ) → length s ≤ i → nameLength (drop 
 unfolding nameLength
 name-end s i l = rw (drop-of-length-le s l)
 
--- ---- join: the SSID is there
+-- ---- the test that an argument reader makes
 
-pub join-room : (a : List ℕ) (n : ℕ) → n ≡ le32At a 4 → (leb 8 (length a) && leb (8 + le32At a 4) (length a)) ≡ true → 8 + n ≤ length a
-join-room a n e h = rw e (leb-true (8 + le32At a 4) (length a) (both (leb 8 (length a)) (leb (8 + le32At a 4) (length a)) h .1))
+complete-by : (t : Bool) (c : Call) → complete (pick t (callWith c) badArguments) ≡ t
+complete-by true c = refl
+complete-by false c = refl
 
--- ---- variable: the zero is there
+abbrev joinFits : List ℕ → Bool
+joinFits a = leb 8 (length a) && leb (8 + le32At a 4) (length a)
 
-pub variable-long : (a : List ℕ) → (leb 4 (length a) && ltb (nameLength (drop 4 a)) (length (drop 4 a))) ≡ true → 4 ≤ length a
-variable-long a h = leb-true 4 (length a) (both (leb 4 (length a)) (ltb (nameLength (drop 4 a)) (length (drop 4 a))) h .0)
+abbrev variableFits : List ℕ → Bool
+variableFits a = leb 4 (length a) && ltb (nameLength (drop 4 a)) (length (drop 4 a))
 
-pub variable-room : (a : List ℕ) (n : ℕ) → n ≡ nameLength (take (length a - 4) (drop 4 a))
-    → (leb 4 (length a) && ltb (nameLength (drop 4 a)) (length (drop 4 a))) ≡ true → 5 + n ≤ length a
+pub join-complete : (a : List ℕ) → joinFits a ≡ complete (joinOf a)
+unfolding joinOf
+join-complete a = sym (complete-by (joinFits a) _)
+
+pub variable-complete : (a : List ℕ) → variableFits a ≡ complete (variableOf a)
+unfolding variableOf
+variable-complete a = sym (complete-by (variableFits a) _)
+
+-- the SSID is there
+pub join-room : (a : List ℕ) (n : ℕ) → n ≡ le32At a 4 → complete (joinOf a) ≡ true → 8 + n ≤ length a
+join-room a n e h =
+    rw e (leb-true (8 + le32At a 4) (length a) (both (leb 8 (length a)) (leb (8 + le32At a 4) (length a)) (join-complete a ∙ h) .1))
+
+-- the interface is there, and the zero
+variable-both : (a : List ℕ) → complete (variableOf a) ≡ true → (4 ≤ length a) × (nameLength (drop 4 a) < length (drop 4 a))
+variable-both a h =
+    let t : (leb 4 (length a) ≡ true) × (ltb (nameLength (drop 4 a)) (length (drop 4 a)) ≡ true) = both _ _ (variable-complete a ∙ h) in
+    (leb-true 4 (length a) (t .0), ltb-true _ _ (t .1))
+
+pub variable-long : (a : List ℕ) → complete (variableOf a) ≡ true → 4 ≤ length a
+variable-long a h = variable-both a h .0
+
+pub variable-room : (a : List ℕ) (n : ℕ) → n ≡ nameLength (take (length a - 4) (drop 4 a)) → complete (variableOf a) ≡ true → 5 + n ≤ length a
 variable-room a n e h =
-    let l : nameLength (drop 4 a) < length (drop 4 a) = ltb-true _ _ (both (leb 4 (length a)) (ltb (nameLength (drop 4 a)) (length (drop 4 a))) h .1) in
+    let l : nameLength (drop 4 a) < length (drop 4 a) = variable-both a h .1 in
     let m : n ≡ nameLength (drop 4 a) = rw part-rest at e in
     omega (arith, length-drop 4 a)
 
@@ -72,4 +97,4 @@ output-zeros n k zs e ek h = rw (e, ek) (take-zeros k 2048 h)
 pub ended : (o : Outcome) (w : World) (log out : List ℕ)
     → record { outcome = o; st = w .st; list = w .list; buf = w .buf; log = log; len = 0; output = out } ≡ shown log out (finished o [] w)
 unfolding shown logOf
-ended o w log out = rw (over-nil, over-nil)
+ended o w log out = simp over-nil

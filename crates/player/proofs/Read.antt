@@ -1,9 +1,8 @@
 -- What was read is within its limits, and is what `nextCall` finds.
-use mathlib.Core.Path.{_≡_, refl, sym, ap, _∙_}
+use mathlib.Core.Path.{_≡_, refl, sym}
 use mathlib.Core.Bool.{Bool, true, false, _&&_, not}
-use mathlib.Core.List.{List, [], _∷_, _++_}
-use Prim.Native.Nat.{ℕ, _+_, _-_, _≤_, _<_}
-use native.Mathlib.Nat.{suc-add}
+use mathlib.Core.List.{List, _∷_, _++_}
+use Prim.Native.Nat.{ℕ, _+_, _-_, _≤_}
 use native.Mathlib.Omega.{arith}
 use lib.Dec.{ltb, leb, eqb}
 use lib.ListN.{length, take, drop, getD, length-append, length-take}
@@ -12,7 +11,7 @@ use borrow.Author.Tests.{ltb-true, ltb-false, le-leb, lt-leb, eq-eqb, ne-eqb, eq
 use Rattle.slices.specs.Pick.{pick}
 use Rattle.slices.specs.Le.{le32At, wordsFor, bytesOf}
 use Rattle.slices.proofs.Le.{length-bytesOf}
-use Rattle.cyw43_definition.specs.Player.{Input, nothing, bad, one, nextCall}
+use Rattle.cyw43_definition.specs.Player.{bad, one, nextCall}
 use Rattle.player.specs.declared.input.Count.{Count}
 use Rattle.player.specs.declared.input.Next.{Next}
 use Rattle.player.specs.Input.{isCall, outputLength, Within, Fits}

@@ -7,14 +7,14 @@ use native.Mathlib.Nat.{pow-le-pow-right, pow-suc}
 use native.Mathlib.Numerals.{add-one}
 use native.Mathlib.Omega.{arith}
 use lib.Dec.{ltb}
-use lib.ListN.{length, take, drop, getD, length-append, length-take}
+use lib.ListN.{length, take, getD, length-append, length-take}
 use lib.Seq.{take-suc, take-all, take-append-seam, take-take}
 use borrow.Author.Tests.{lt-ltb, le-ltb, ltb-true, ltb-false}
 use Rattle.cyw43_definition.specs.Player.{line}
 use Rattle.io.specs.Digits.{glyph, digits, Fewest}
 use Rattle.slices.specs.Over.{over}
 use Rattle.slices.proofs.Over.{over-append, over-parts, Run}
-use Rattle.player.specs.Text.{decimalIn, decimal, hex, spaced, rowOf, wordsOf, textOf}
+use Rattle.player.specs.Text.{decimalIn, decimal, hex, rowOf, wordsOf, textOf}
 
 pub length-digits : (b k n : ℕ) → length (digits b k n) ≡ k
 length-digits b zero n = refl
@@ -90,6 +90,11 @@ hex-laid d e f ds at k n t s h es ee ef =
     rw (ef, ee, is, l, over-append)
 
 -- ---- a row of numbers
+
+-- numbers in base ten, a space after each
+unfoldable pub spaced : List ℕ → List ℕ
+spaced [] = []
+spaced (n ∷ ns) = decimal n ++ (32 ∷ spaced ns)
 
 spaced-append : (a b : List ℕ) → spaced (a ++ b) ≡ spaced a ++ spaced b
 unfolding spaced

@@ -19,11 +19,6 @@ decimal n = decimalIn 20 n
 unfoldable pub hex : ℕ → List ℕ
 hex w = digits 16 8 w
 
--- numbers in base ten, a space after each
-unfoldable pub spaced : List ℕ → List ℕ
-spaced [] = []
-spaced (n ∷ ns) = decimal n ++ (32 ∷ spaced ns)
-
 -- 'base ten, one space between, newline'
 unfoldable pub rowOf : List ℕ → List ℕ
 rowOf [] = 10 ∷ []

@@ -7,16 +7,13 @@ use cyw43_types::scan::ScanList;
 use cyw43_types::state::State;
 use slices::get_le32;
 ghost use mathlib.Core.Path.{_≡_};
-ghost use mathlib.Core.Bool.{_&&_};
 ghost use mathlib.Core.List.{List};
-ghost use Prim.Native.Nat.{ℕ, _+_};
-ghost use lib.Dec.{ltb, leb};
-ghost use lib.ListN.{length, drop, replicate};
-ghost use Rattle.slices.specs.Le.{le32At};
+ghost use Prim.Native.Nat.{ℕ};
+ghost use lib.ListN.{replicate};
 ghost use Rattle.cyw43_definition.specs.Prog.{world};
-ghost use Rattle.cyw43_definition.specs.Player.{nameLength, playedCall, badArguments};
+ghost use Rattle.cyw43_definition.specs.Player.{nameLength, joinOf, variableOf, playedCall, badArguments};
 ghost use Rattle.player.specs.End.{endOf};
-ghost use Rattle.player.specs.Input.{outputLength};
+ghost use Rattle.player.specs.Input.{outputLength, complete};
 
 // Bad arguments: nothing is changed.
 fn refused(st: State, list: ScanList) -> CallEnd
@@ -32,7 +29,7 @@ fn refused(st: State, list: ScanList) -> CallEnd
 
 // Auth, SSID length, SSID, passphrase.
 fn join_fits(args: &[u8]) -> bool
-    ensures { λ r. ⌜ r ≡ (leb 8 (length (now (args .entry))) && leb (8 + le32At (now (args .entry)) 4) (length (now (args .entry)))) ⌝ }
+    ensures { λ r. ⌜ r ≡ complete (joinOf (now (args .entry))) ⌝ }
 {
     8 <= args.len() && 8 + get_le32(args, 4) as usize <= args.len()
 }
@@ -50,7 +47,7 @@ fn name_length(s: &[u8]) -> usize
 
 // Interface, name, zero, data.
 fn variable_fits(args: &[u8]) -> bool
-    ensures { λ r. ⌜ r ≡ (leb 4 (length (now (args .entry))) && ltb (nameLength (drop 4 (now (args .entry)))) (length (drop 4 (now (args .entry))))) ⌝ }
+    ensures { λ r. ⌜ r ≡ complete (variableOf (now (args .entry))) ⌝ }
 {
     4 <= args.len() && name_length(&args[4..]) < args.len() - 4
 }

@@ -89,9 +89,11 @@ fn recording_bytes() -> [u8; 16384]
     [0; 16384]
 }
 
-fn read_words(words: &mut [u32]) -> bool {
+fn read_words(words: &mut [u32]) -> bool
+    requires { ⌜ length (now words) ≤ 4096 ⌝ }
+{
     let mut bytes = recording_bytes();
-    let n = slices::fitting(4096, 0, words.len());
+    let n = words.len();
     read_packed(words, &mut bytes[..4 * n])
 }
 

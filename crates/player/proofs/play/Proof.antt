@@ -1,77 +1,52 @@
--- <<
 use native.Mathlib.Omega.{arith}
 use lib.ListN.{length-take}
 use Rattle.player.proofs.Arguments.{output-zeros}
--- >>
 use borrow.Author.Needs.{needs}
 use Rattle.player.proofs.play.Statement.{statement}
 use Rattle.player.proofs.play.Tie as tie
-use Rattle.player.proofs.play.Reads as reads
-use Rattle.player.proofs.play.Lts as lts
-use Rattle.io.proofs.write_all.Reads as write-all-reads
-use Rattle.player.proofs.calls.play_call.Reads as play-call-reads
-use Rattle.player.proofs.input.output_length.Reads as output-length-reads
-use Rattle.player.proofs.log_words.Reads as log-words-reads
-use Rattle.player.proofs.text.put_lines.Reads as put-lines-reads
-use Rattle.player.proofs.zero_bytes.Reads as zero-bytes-reads
 
--- src/main.rt:62:19
 log-words-requires : tie.Need-log-words-requires
 log-words-requires c κs = search needs
 
--- src/main.rt:63:19
 zero-bytes-requires : tie.Need-zero-bytes-requires
 zero-bytes-requires c κs = search needs
 
--- src/main.rt:66:9
 output-length-requires : tie.Need-output-length-requires
 output-length-requires c κs = search needs
 
--- src/main.rt:67:57
 slice-aggregate-play-call : tie.Need-slice-aggregate-play-call
 slice-aggregate-play-call c = search needs
 
--- src/main.rt:67:72
 array-borrow-prefix-out : tie.Need-array-borrow-prefix-out
 array-borrow-prefix-out c = search needs
 
--- src/main.rt:67:72
 slice-aggregate-play-call-2 : tie.Need-slice-aggregate-play-call-2
 slice-aggregate-play-call-2 c = simp length-take (omega arith)
 
--- src/main.rt:67:9
 play-call-requires : tie.Need-play-call-requires
 play-call-requires c κs = (c .before .before .before .before .before .before .before .log-words .ensures .0, output-zeros _ _ _ (c .before .before .before .before .before .before .zero-bytes .ensures .0) (c .before .before .before .output-length .ensures) (c .before .before .before .before .before .before .before .before .before .before .before .before .pre .0))
 
--- src/main.rt:68:44
 slice-aggregate-put-lines : tie.Need-slice-aggregate-put-lines
 slice-aggregate-put-lines c = search needs
 
--- src/main.rt:68:9
 put-lines-requires : tie.Need-put-lines-requires
 put-lines-requires c κs = (c .before .before .before .before .before .before .before .before .before .before .before .before .before .before .before .before .before .before .before .pre .1, omega (arith, c .before .before .before .before .before .before .play-call .kept .1 .1 .1 .1 .1 .0, c .before .before .before .before .before .before .before .before .before .before .before .before .before .before .log-words .ensures .1))
 
--- src/main.rt:69:34
 slice-reshare-prefix-write-all : tie.Need-slice-reshare-prefix-write-all
 slice-reshare-prefix-write-all c = search needs
 
--- src/main.rt:69:34
 slice-aggregate-write-all : tie.Need-slice-aggregate-write-all
 slice-aggregate-write-all c = simp length-take (omega arith)
 
--- src/main.rt:69:9
 write-all-requires : tie.Need-write-all-requires
 write-all-requires c κs = search needs
 
--- src/main.rt:58:1
 same-length : tie.Need-same-length
 same-length c = search needs
 
--- src/main.rt:58:1
 same-length-2 : tie.Need-same-length-2
 same-length-2 c = search needs
 
--- src/main.rt:58:1
 returns : tie.Need-returns
 returns c = search needs
 

@@ -1,7 +1,5 @@
--- <<
-use borrow.Author.Needs.{needs}
 use Prim.Native.Nat.{_+_, _-_, _≤_}
-use mathlib.Core.Path.{_≡_, refl, sym, _∙_}
+use mathlib.Core.Path.{_≡_}
 use borrow.Author.Needs.{needs}
 use borrow.Author.Tests.{eqb-true, eqb-false, not-true, not-false}
 use native.Mathlib.Numerals.{add-one}
@@ -9,11 +7,8 @@ use native.Mathlib.Omega.{arith}
 use lib.ListN.{length, drop}
 use Rattle.cyw43_definition.specs.Player.{nameLength}
 use Rattle.player.proofs.Arguments.{name-more, name-zero, name-end}
--- >>
 use Rattle.player.proofs.calls.name_length.Statement.{statement}
 use Rattle.player.proofs.calls.name_length.Tie as tie
-use Rattle.player.proofs.calls.name_length.Reads as reads
-use Rattle.player.proofs.calls.name_length.Lts as lts
 
 abbrev Inv-loop : tie.InvT-loop
 Inv-loop s i₀ i = (i ≤ length s) × (nameLength s ≡ i + nameLength (drop i s))
@@ -21,31 +16,24 @@ Inv-loop s i₀ i = (i ≤ length s) × (nameLength s ≡ i + nameLength (drop i
 abbrev μ-loop : tie.MeasureT-loop
 μ-loop s i₀ i = length s - i
 
--- src/calls.rt:39:5
 loop-holds : tie.Need-loop-holds Inv-loop μ-loop
 loop-holds c = search needs
 
--- src/calls.rt:39:26
 shared-slice-read-if1 : tie.Need-shared-slice-read-if1 Inv-loop μ-loop
 shared-slice-read-if1 c = search needs
 
--- src/calls.rt:40:9
 add-i : tie.Need-add-i Inv-loop μ-loop
 add-i c = search needs
 
--- src/calls.rt:39:5
 loop-less : tie.Need-loop-less Inv-loop μ-loop
 loop-less c = search needs
 
--- src/calls.rt:39:5
 loop-again : tie.Need-loop-again Inv-loop μ-loop
 loop-again c = (search needs, rw add-one (omega (arith, name-more (c .before .before .before .before .args .s .now) (c .before .before .before .loop .i) (c .before .before .loop-test .taken) (eqb-false _ _ (not-true _ (c .if1 .taken))))))
 
--- src/calls.rt:35:1
 returns : tie.Need-returns Inv-loop μ-loop
 returns c = omega (arith, name-zero (c .before .before .before .before .args .s .now) (c .before .before .before .loop .i) (c .before .before .loop-test .taken) (eqb-true _ _ (not-false _ (c .if1 .left))))
 
--- src/calls.rt:35:1
 returns-2 : tie.Need-returns-2 Inv-loop μ-loop
 returns-2 c = omega (arith, name-end (c .before .before .args .s .now) (c .before .loop .i) (c .loop-test .left))
 

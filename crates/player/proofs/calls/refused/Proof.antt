@@ -1,15 +1,9 @@
--- <<
-use borrow.Author.Needs.{needs}
 use Rattle.cyw43_definition.specs.Prog.{world}
 use Rattle.cyw43_definition.specs.Player.{playedCall}
 use Rattle.player.proofs.Arguments.{ended}
--- >>
 use Rattle.player.proofs.calls.refused.Statement.{statement}
 use Rattle.player.proofs.calls.refused.Tie as tie
-use Rattle.player.proofs.calls.refused.Reads as reads
-use Rattle.player.proofs.calls.refused.Lts as lts
 
--- src/calls.rt:22:1
 returns : tie.Need-returns
 unfolding playedCall
 returns c = λ rec buf out. ended _ (world (c .args .st) buf (c .args .list)) _ out

@@ -1,17 +1,10 @@
--- <<
-use borrow.Author.Needs.{needs}
 use borrow.Author.Tests.{lt-ltb, le-ltb}
--- >>
 use Rattle.player.proofs.input.is_call.Statement.{statement}
 use Rattle.player.proofs.input.is_call.Tie as tie
-use Rattle.player.proofs.input.is_call.Reads as reads
-use Rattle.player.proofs.input.is_call.Lts as lts
 
--- src/input.rt:35:1
 returns : tie.Need-returns
 returns c = rw (lt-ltb 4026531840 (c .before .args .h) (c .if1 .taken))
 
--- src/input.rt:35:1
 returns-2 : tie.Need-returns-2
 returns-2 c = rw (le-ltb 4026531840 (c .before .args .h) (c .if1 .left))
 

@@ -1,27 +1,18 @@
--- <<
 use mathlib.Core.Logic.{⊎-elim}
 use borrow.Author.Tests.{eq-eqb, ne-eqb}
--- >>
 use borrow.Author.Needs.{needs}
 use Rattle.player.proofs.input.output_length.Statement.{statement}
 use Rattle.player.proofs.input.output_length.Tie as tie
-use Rattle.player.proofs.input.output_length.Reads as reads
-use Rattle.player.proofs.input.output_length.Lts as lts
-use Rattle.slices.proofs.get_le32.Reads as get-le32-reads
 
--- src/input.rt:46:9
 get-le32-requires : tie.Need-get-le32-requires
 get-le32-requires c κs = search needs
 
--- src/input.rt:46:9
 cast-result : tie.Need-cast-result
 cast-result c = search needs
 
--- src/input.rt:42:1
 returns : tie.Need-returns
 returns c = rw (eq-eqb (c .before .before .before .before .args .call) 8 (c .before .before .if1 .taken), c .before .if2 .taken) (c .get-le32 .ensures)
 
--- src/input.rt:42:1
 returns-2 : tie.Need-returns-2
 returns-2 c = ⊎-elim (λ w. rw (eq-eqb (c .before .before .args .call) 8 (w .0 .taken), w .1 .left)) (λ w. rw (ne-eqb (c .before .before .args .call) 8 (w .left))) (c .if1 .came)
 

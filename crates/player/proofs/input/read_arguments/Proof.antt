@@ -1,74 +1,55 @@
--- <<
 use Prim.Native.Nat.{_≤_}
 use native.Mathlib.Omega.{arith}
 use lib.ListN.{length-take}
 use Rattle.player.proofs.Read.{within}
--- >>
 use borrow.Author.Needs.{needs}
 use Rattle.player.proofs.input.read_arguments.Statement.{statement}
 use Rattle.player.proofs.input.read_arguments.Tie as tie
-use Rattle.player.proofs.input.read_arguments.Reads as reads
-use Rattle.player.proofs.input.read_arguments.Lts as lts
-use Rattle.player.proofs.input.read_bytes.Reads as read-bytes-reads
-use Rattle.player.proofs.input.read_count.Reads as read-count-reads
 
--- src/input.rt:105:24
 read-count-requires : tie.Need-read-count-requires
 read-count-requires c κs = search needs
 
--- src/input.rt:105:19
 enum-known-n : tie.Need-enum-known-n
 enum-known-n c = search needs
 
--- src/input.rt:106:9
 enum-told : tie.Need-enum-told
 enum-told c = search needs
 
--- src/input.rt:106:9
 returns : tie.Need-returns
 returns c = search needs
 
--- src/input.rt:108:32
 add-read-bytes : tie.Need-add-read-bytes
 add-read-bytes c =
     let h : c .before .n .given .0 .0 ≤ 2048 = within _ _ _ (c .before .n .given .1) (c .before .before .before .read-count .ensures) in
     search needs
 
--- src/input.rt:108:31
 mul-read-bytes : tie.Need-mul-read-bytes
 mul-read-bytes c =
     let h : c .before .n .given .0 .0 ≤ 2048 = within _ _ _ (c .before .n .given .1) (c .before .before .before .read-count .ensures) in
     search needs
 
--- src/input.rt:108:19
 slice-relend-prefix-read-bytes : tie.Need-slice-relend-prefix-read-bytes
 slice-relend-prefix-read-bytes c =
     let h : c .before .n .given .0 .0 ≤ 2048 = within _ _ _ (c .before .n .given .1) (c .before .before .before .read-count .ensures) in
     search needs
 
--- src/input.rt:108:19
 slice-aggregate-read-bytes : tie.Need-slice-aggregate-read-bytes
 slice-aggregate-read-bytes c =
     let h : c .before .before .n .given .0 .0 ≤ 2048 = within _ _ _ (c .before .before .n .given .1) (c .before .before .before .before .read-count .ensures) in
     simp length-take (omega arith)
 
--- src/input.rt:108:8
 read-bytes-requires : tie.Need-read-bytes-requires
 read-bytes-requires c κs = search needs
 
--- src/input.rt:101:1
 same-length : tie.Need-same-length
 same-length c = search needs
 
--- src/input.rt:101:1
 returns-2 : tie.Need-returns-2
 returns-2 c = within _ _ _ (c .before .before .before .before .before .before .n .given .1) (c .before .before .before .before .before .before .before .before .read-count .ensures)
 
--- src/input.rt:101:1
 same-length-2 : tie.Need-same-length-2
 same-length-2 c = search needs
 
--- src/input.rt:101:1
 returns-3 : tie.Need-returns-3
 returns-3 c = search needs
 

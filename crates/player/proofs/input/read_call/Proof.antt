@@ -1,66 +1,46 @@
--- <<
 use mathlib.Core.Path.{sym, _∙_}
 use native.Mathlib.Omega.{arith}
 use Rattle.player.proofs.Arguments.{call-above}
--- >>
 use borrow.Author.Needs.{needs}
 use Rattle.player.proofs.input.read_call.Statement.{statement}
 use Rattle.player.proofs.input.read_call.Tie as tie
-use Rattle.player.proofs.input.read_call.Reads as reads
-use Rattle.player.proofs.input.read_call.Lts as lts
-use Rattle.player.proofs.input.is_call.Reads as is-call-reads
-use Rattle.player.proofs.input.read_rest.Reads as read-rest-reads
-use Rattle.player.proofs.input.read_word.Reads as read-word-reads
 
--- src/input.rt:158:9
 read-word-requires : tie.Need-read-word-requires
 read-word-requires c κs = search needs
 
--- src/input.rt:160:22
 enum-told : tie.Need-enum-told
 enum-told c = search needs
 
--- src/input.rt:161:22
 enum-told-2 : tie.Need-enum-told-2
 enum-told-2 c = search needs
 
--- src/input.rt:162:21
 enum-known-w : tie.Need-enum-known-w
 enum-known-w c = search needs
 
--- src/input.rt:162:30
 is-call-requires : tie.Need-is-call-requires
 is-call-requires c κs = search needs
 
--- src/input.rt:163:23
 sub-read-rest : tie.Need-sub-read-rest
 sub-read-rest c = omega (arith, call-above (c .before .before .before .w .given .0 .0) (sym (c .before .is-call .ensures) ∙ c .if1 .taken))
 
--- src/input.rt:163:13
 read-rest-requires : tie.Need-read-rest-requires
 read-rest-requires c κs = search needs
 
--- src/input.rt:153:1
 returns : tie.Need-returns
 returns c = search needs
 
--- src/input.rt:153:1
 returns-2 : tie.Need-returns-2
 returns-2 c = search needs
 
--- src/input.rt:153:1
 same-length : tie.Need-same-length
 same-length c = search needs
 
--- src/input.rt:153:1
 same-length-2 : tie.Need-same-length-2
 same-length-2 c = search needs
 
--- src/input.rt:153:1
 returns-3 : tie.Need-returns-3
 returns-3 c = search needs
 
--- src/input.rt:153:1
 returns-4 : tie.Need-returns-4
 returns-4 c = search needs
 

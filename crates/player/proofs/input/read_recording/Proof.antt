@@ -1,62 +1,45 @@
--- <<
 use Prim.Native.Nat.{_≤_}
 use native.Mathlib.Omega.{arith}
 use lib.ListN.{length-take}
 use Rattle.player.proofs.Read.{within}
--- >>
 use borrow.Author.Needs.{needs}
 use Rattle.player.proofs.input.read_recording.Statement.{statement}
 use Rattle.player.proofs.input.read_recording.Tie as tie
-use Rattle.player.proofs.input.read_recording.Reads as reads
-use Rattle.player.proofs.input.read_recording.Lts as lts
-use Rattle.player.proofs.input.read_count.Reads as read-count-reads
-use Rattle.player.proofs.input.read_words.Reads as read-words-reads
 
--- src/input.rt:120:24
 read-count-requires : tie.Need-read-count-requires
 read-count-requires c κs = search needs
 
--- src/input.rt:120:19
 enum-known-n : tie.Need-enum-known-n
 enum-known-n c = search needs
 
--- src/input.rt:121:9
 enum-told : tie.Need-enum-told
 enum-told c = search needs
 
--- src/input.rt:121:9
 returns : tie.Need-returns
 returns c = search needs
 
--- src/input.rt:123:19
 slice-relend-prefix-read-words : tie.Need-slice-relend-prefix-read-words
 slice-relend-prefix-read-words c =
     let h : c .before .n .given .0 .0 ≤ 4096 = within _ _ _ (c .before .n .given .1) (c .before .before .before .read-count .ensures) in
     search needs
 
--- src/input.rt:123:19
 slice-aggregate-read-words : tie.Need-slice-aggregate-read-words
 slice-aggregate-read-words c =
     let h : c .before .before .n .given .0 .0 ≤ 4096 = within _ _ _ (c .before .before .n .given .1) (c .before .before .before .before .read-count .ensures) in
     simp length-take (omega arith)
 
--- src/input.rt:123:8
 read-words-requires : tie.Need-read-words-requires
-read-words-requires c κs = search needs
+read-words-requires c κs = simp length-take (omega arith)
 
--- src/input.rt:116:1
 same-length : tie.Need-same-length
 same-length c = search needs
 
--- src/input.rt:116:1
 returns-2 : tie.Need-returns-2
 returns-2 c = within _ _ _ (c .before .before .before .before .before .before .n .given .1) (c .before .before .before .before .before .before .before .before .read-count .ensures)
 
--- src/input.rt:116:1
 same-length-2 : tie.Need-same-length-2
 same-length-2 c = search needs
 
--- src/input.rt:116:1
 returns-3 : tie.Need-returns-3
 returns-3 c = search needs
 

@@ -1,58 +1,42 @@
--- <<
-use Prim.Native.Nat.{_≤_}
+use Prim.Native.Nat.{_≤_, ℕ}
 use mathlib.Core.Path.{ap, _∙_}
 use mathlib.Core.List.{List}
-use Prim.Native.Nat.{ℕ}
 use native.Mathlib.Omega.{arith}
 use lib.ListN.{length, take, length-take}
 use Rattle.cyw43_definition.specs.Player.{line}
 use Rattle.player.specs.Text.{textOf}
 use Rattle.player.proofs.Texts.{lines-laid}
--- >>
 use borrow.Author.Needs.{needs}
 use Rattle.player.proofs.text.put_lines.Statement.{statement}
 use Rattle.player.proofs.text.put_lines.Tie as tie
-use Rattle.player.proofs.text.put_lines.Reads as reads
-use Rattle.player.proofs.text.put_lines.Lts as lts
-use Rattle.player.proofs.text.numbers.Reads as numbers-reads
-use Rattle.player.proofs.text.put_numbers.Reads as put-numbers-reads
-use Rattle.player.proofs.text.put_words.Reads as put-words-reads
-use Rattle.slices.proofs.fitting.Reads as fitting-reads
 
--- src/text.rt:109:14
 numbers-requires : tie.Need-numbers-requires
 numbers-requires c κs = search needs
 
--- src/text.rt:110:32
 slice-aggregate-put-numbers : tie.Need-slice-aggregate-put-numbers
 slice-aggregate-put-numbers c = search needs
 
--- src/text.rt:110:9
 put-numbers-requires : tie.Need-put-numbers-requires
 put-numbers-requires c κs = search needs
 
--- src/text.rt:111:9
 fitting-requires : tie.Need-fitting-requires
 fitting-requires c κs = search needs
 
--- src/text.rt:112:25
 slice-aggregate-put-words : tie.Need-slice-aggregate-put-words
 slice-aggregate-put-words c = simp length-take (omega arith)
 
--- src/text.rt:112:5
 put-words-requires : tie.Need-put-words-requires
 put-words-requires c κs = (search needs, simp length-take (omega arith))
 
--- src/text.rt:103:1
 same-length : tie.Need-same-length
 same-length c = search needs
 
--- src/text.rt:103:1
 returns : tie.Need-returns
 returns c =
-    let k : c .before .before .put-words .result ≤ length (c .before .before .before .before .before .before .before .before .before .before .before .before .before .before .args .text .now) = omega (arith, c .before .before .put-words .ensures .1, length-take (c .before .before .before .before .before .fitting .result) (c .before .before .before .before .before .before .before .before .before .before .before .before .before .before .args .log .now)) in
-    (λ buf out. lines-laid (c .before .before .before .before .before .before .before .before .before .before .before .before .before .before .args .text .now) (c .before .before .before .before .before .before .before .before .put-numbers .last .0) (c .before .before .put-words .last .0) (c .before .before .before .before .before .before .before .before .before .before .before .before .before .before .args .log .now) (c .before .before .before .before .before .before .before .before .before .before .before .numbers .result) (c .before .before .before .before .before .fitting .result) (c .before .before .before .before .before .before .before .before .before .before .before .before .before .before .args .e .len) (c .before .before .before .before .before .before .before .before .put-numbers .result) (c .before .before .put-words .result) (c .before .before .before .before .before .before .before .before .put-numbers .ensures .0) (c .before .before .before .before .before .before .before .before .put-numbers .ensures .1 .0) (c .before .before .before .before .before .fitting .ensures) (c .before .before .put-words .ensures .0) (c .before .before .put-words .ensures .1) k ∙ ap (λ (ns : List ℕ). textOf (line ns (take (c .before .before .before .before .before .before .before .before .before .before .before .before .before .before .args .e .len) (c .before .before .before .before .before .before .before .before .before .before .before .before .before .before .args .log .now)))) (c .before .before .before .before .before .before .before .before .before .before .before .numbers .ensures (c .before .before .before .before .before .before .before .before .before .before .before .before .before .before .args .log .now) buf out)
-    , search needs)
+    let k : c .before .before .put-words .result ≤ length (c .before .before .before .before .before .before .before .before .before .before .before .before .before .before .args .text .now) = omega (arith, c .before .before .put-words .ensures .1, length-take (c .before .before .before .before .before .fitting .result) (c .before .before .before .before .before .before .before .before .before .before .before .before .before .before .args .log .now)) in (
+      λ buf out. lines-laid (c .before .before .before .before .before .before .before .before .before .before .before .before .before .before .args .text .now) (c .before .before .before .before .before .before .before .before .put-numbers .last .0) (c .before .before .put-words .last .0) (c .before .before .before .before .before .before .before .before .before .before .before .before .before .before .args .log .now) (c .before .before .before .before .before .before .before .before .before .before .before .numbers .result) (c .before .before .before .before .before .fitting .result) (c .before .before .before .before .before .before .before .before .before .before .before .before .before .before .args .e .len) (c .before .before .before .before .before .before .before .before .put-numbers .result) (c .before .before .put-words .result) (c .before .before .before .before .before .before .before .before .put-numbers .ensures .0) (c .before .before .before .before .before .before .before .before .put-numbers .ensures .1 .0) (c .before .before .before .before .before .fitting .ensures) (c .before .before .put-words .ensures .0) (c .before .before .put-words .ensures .1) k ∙ ap (λ (ns : List ℕ). textOf (line ns (take (c .before .before .before .before .before .before .before .before .before .before .before .before .before .before .args .e .len) (c .before .before .before .before .before .before .before .before .before .before .before .before .before .before .args .log .now)))) (c .before .before .before .before .before .before .before .before .before .before .before .numbers .ensures (c .before .before .before .before .before .before .before .before .before .before .before .before .before .before .args .log .now) buf out),
+      search needs,
+    )
 
 pub put-lines-spec : {M : Type 1} → statement M
 put-lines-spec =

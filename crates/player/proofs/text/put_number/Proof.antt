@@ -1,67 +1,51 @@
--- <<
 use Prim.Native.Nat.{_≤_, _<_}
 use native.Mathlib.Omega.{arith}
 use lib.ListN.{length-append}
 use Rattle.player.proofs.Texts.{twenty, decimal-length, decimal-laid}
--- >>
 use borrow.Author.Needs.{needs}
 use Rattle.player.proofs.text.put_number.Statement.{statement}
 use Rattle.player.proofs.text.put_number.Tie as tie
-use Rattle.player.proofs.text.put_number.Reads as reads
-use Rattle.player.proofs.text.put_number.Lts as lts
-use Rattle.io.proofs.decimal.Reads as decimal-reads
-use Rattle.slices.proofs.copy_over.Reads as copy-over-reads
-use Rattle.slices.proofs.put_byte.Reads as put-byte-reads
 
--- src/text.rt:57:9
 decimal-requires : tie.Need-decimal-requires
 decimal-requires c κs = search needs
 
--- src/text.rt:58:33
 array-share-prefix-digits : tie.Need-array-share-prefix-digits
 array-share-prefix-digits c = search needs
 
--- src/text.rt:58:33
 slice-aggregate-copy-over : tie.Need-slice-aggregate-copy-over
 slice-aggregate-copy-over c = search needs
 
--- src/text.rt:58:5
 copy-over-requires : tie.Need-copy-over-requires
 copy-over-requires c κs = search needs
 
--- src/text.rt:59:28
 add-put-byte : tie.Need-add-put-byte
 add-put-byte c =
     let h : c .before .before .before .before .before .before .decimal .result ≤ 20 = twenty (c .before .before .before .before .before .before .before .before .before .args .n) (c .before .before .before .before .before .before .decimal .result) (omega arith) (c .before .before .before .before .before .before .decimal .ensures .1 .0) in
     search needs
 
--- src/text.rt:59:5
 put-byte-requires : tie.Need-put-byte-requires
 put-byte-requires c κs = search needs
 
--- src/text.rt:60:5
 add-result : tie.Need-add-result
 add-result c =
     let h : c .before .before .before .before .before .before .before .before .before .decimal .result ≤ 20 = twenty (c .before .before .before .before .before .before .before .before .before .before .before .before .args .n) (c .before .before .before .before .before .before .before .before .before .decimal .result) (omega arith) (c .before .before .before .before .before .before .before .before .before .decimal .ensures .1 .0) in
     search needs
 
--- src/text.rt:60:5
 add-result-2 : tie.Need-add-result-2
 add-result-2 c =
     let h : c .before .before .before .before .before .before .before .before .before .decimal .result ≤ 20 = twenty (c .before .before .before .before .before .before .before .before .before .before .before .before .args .n) (c .before .before .before .before .before .before .before .before .before .decimal .result) (omega arith) (c .before .before .before .before .before .before .before .before .before .decimal .ensures .1 .0) in
     search needs
 
--- src/text.rt:51:1
 same-length : tie.Need-same-length
 same-length c = search needs
 
--- src/text.rt:51:1
 returns : tie.Need-returns
 returns c =
     let b : c .before .before .before .before .before .before .before .before .before .before .before .before .args .n < 18446744073709551616 = omega arith in
-    let h : c .before .before .before .before .before .before .before .before .before .decimal .result ≤ 20 = twenty (c .before .before .before .before .before .before .before .before .before .before .before .before .args .n) (c .before .before .before .before .before .before .before .before .before .decimal .result) b (c .before .before .before .before .before .before .before .before .before .decimal .ensures .1 .0) in
-    (decimal-laid _ _ _ _ _ _ _ _ b (c .before .before .before .before .before .before .before .before .before .decimal .ensures .1 .0) (c .before .before .before .before .before .before .before .before .before .decimal .ensures .1 .1) (c .before .before .before .before .before .before .copy-over .ensures) (c .before .before .put-byte .ensures)
-    , (rw length-append (omega (arith, decimal-length (c .before .before .before .before .before .before .before .before .before .decimal .result) (c .before .before .before .before .before .before .before .before .before .before .before .before .args .n) b (c .before .before .before .before .before .before .before .before .before .decimal .ensures .1 .0))), omega arith))
+    let h : c .before .before .before .before .before .before .before .before .before .decimal .result ≤ 20 = twenty (c .before .before .before .before .before .before .before .before .before .before .before .before .args .n) (c .before .before .before .before .before .before .before .before .before .decimal .result) b (c .before .before .before .before .before .before .before .before .before .decimal .ensures .1 .0) in (
+      decimal-laid _ _ _ _ _ _ _ _ b (c .before .before .before .before .before .before .before .before .before .decimal .ensures .1 .0) (c .before .before .before .before .before .before .before .before .before .decimal .ensures .1 .1) (c .before .before .before .before .before .before .copy-over .ensures) (c .before .before .put-byte .ensures),
+      (rw length-append (omega (arith, decimal-length (c .before .before .before .before .before .before .before .before .before .decimal .result) (c .before .before .before .before .before .before .before .before .before .before .before .before .args .n) b (c .before .before .before .before .before .before .before .before .before .decimal .ensures .1 .0))), omega arith),
+    )
 
 pub put-number-spec : {M : Type 1} → statement M
 put-number-spec =

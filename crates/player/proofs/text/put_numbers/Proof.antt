@@ -1,18 +1,12 @@
--- <<
-use borrow.Author.Needs.{needs}
 use Prim.Native.Nat.{_-_, _≤_, _<_, _*_}
 use mathlib.Core.Path.{_≡_, refl}
 use native.Mathlib.Omega.{arith}
 use lib.ListN.{length, take}
 use Rattle.slices.proofs.Over.{Run, run-none, run-more}
-use Rattle.player.specs.Text.{spaced}
-use Rattle.player.proofs.Texts.{spaced-more, spaced-long, row-laid, row-long}
--- >>
+use Rattle.player.proofs.Texts.{spaced, spaced-more, spaced-long, row-laid, row-long}
+use borrow.Author.Needs.{needs}
 use Rattle.player.proofs.text.put_numbers.Statement.{statement}
 use Rattle.player.proofs.text.put_numbers.Tie as tie
-use Rattle.player.proofs.text.put_numbers.Reads as reads
-use Rattle.player.proofs.text.put_numbers.Lts as lts
-use Rattle.player.proofs.text.put_number.Reads as put-number-reads
 
 abbrev Inv-loop : tie.InvT-loop
 Inv-loop text₀ numbers at₀ i₀ text at i = (i ≤ 8) × (at ≤ 21 * i) × (at ≡ length (spaced (take i numbers))) × Run text₀ 0 (spaced (take i numbers)) text
@@ -20,59 +14,50 @@ Inv-loop text₀ numbers at₀ i₀ text at i = (i ≤ 8) × (at ≤ 21 * i) × 
 abbrev μ-loop : tie.MeasureT-loop
 μ-loop text₀ numbers at₀ i₀ text at i = 8 - i
 
--- src/text.rt:70:5
 loop-holds : tie.Need-loop-holds Inv-loop μ-loop
 unfolding spaced
 loop-holds c = (search needs, search needs, refl, run-none)
 
--- src/text.rt:71:35
 mul-put-number : tie.Need-mul-put-number Inv-loop μ-loop
 mul-put-number c = search needs
 
--- src/text.rt:71:35
 shared-slice-read-put-number : tie.Need-shared-slice-read-put-number Inv-loop μ-loop
 shared-slice-read-put-number c = search needs
 
--- src/text.rt:71:9
 put-number-requires : tie.Need-put-number-requires Inv-loop μ-loop
 put-number-requires c κs = search needs
 
--- src/text.rt:72:9
 add-i : tie.Need-add-i Inv-loop μ-loop
 add-i c = search needs
 
--- src/text.rt:70:5
 loop-less : tie.Need-loop-less Inv-loop μ-loop
 loop-less c = search needs
 
--- src/text.rt:70:5
 loop-again : tie.Need-loop-again Inv-loop μ-loop
 loop-again c =
-    let h : c .before .before .before .before .before .before .loop .i < length (c .before .before .before .before .before .before .before .before .before .args .numbers .now) = omega arith in
-    (search needs
-    , omega (arith, c .before .before .put-number .ensures .1 .1)
-    , spaced-long (c .before .before .before .before .before .before .before .before .before .args .numbers .now) (c .before .before .before .before .before .before .loop .i) (c .before .before .before .before .before .before .loop .at) (c .before .before .put-number .result) h (c .before .before .before .before .before .before .loop .inv .2) (c .before .before .put-number .ensures .1 .0)
-    , rw (spaced-more (c .before .before .before .before .before .before .before .before .before .args .numbers .now) (c .before .before .before .before .before .before .loop .i) h) (run-more _ (c .before .before .before .before .before .before .loop .inv .3) (omega arith) (c .before .before .put-number .ensures .0)))
+    let h : c .before .before .before .before .before .before .loop .i < length (c .before .before .before .before .before .before .before .before .before .args .numbers .now) = omega arith in (
+      search needs,
+      omega (arith, c .before .before .put-number .ensures .1 .1),
+      spaced-long (c .before .before .before .before .before .before .before .before .before .args .numbers .now) (c .before .before .before .before .before .before .loop .i) (c .before .before .before .before .before .before .loop .at) (c .before .before .put-number .result) h (c .before .before .before .before .before .before .loop .inv .2) (c .before .before .put-number .ensures .1 .0),
+      rw (spaced-more (c .before .before .before .before .before .before .before .before .before .args .numbers .now) (c .before .before .before .before .before .before .loop .i) h) (run-more _ (c .before .before .before .before .before .before .loop .inv .3) (omega arith) (c .before .before .put-number .ensures .0)),
+    )
 
--- src/text.rt:74:26
 shared-slice-read-put-number-2 : tie.Need-shared-slice-read-put-number-2 Inv-loop μ-loop
 shared-slice-read-put-number-2 c = search needs
 
--- src/text.rt:74:5
 put-number-requires-2 : tie.Need-put-number-requires-2 Inv-loop μ-loop
 put-number-requires-2 c κs = search needs
 
--- src/text.rt:63:1
 same-length : tie.Need-same-length Inv-loop μ-loop
 same-length c = search needs
 
--- src/text.rt:63:1
 returns : tie.Need-returns Inv-loop μ-loop
 returns c =
     let n : length (c .before .before .before .before .before .before .before .before .before .args .numbers .now) ≡ 9 = omega arith in
-    let e : c .before .before .before .before .before .before .loop .i ≡ 8 = omega arith in
-    (row-laid (c .before .before .before .before .before .before .before .before .before .args .text .now) _ _ (c .before .before .before .before .before .before .before .before .before .args .numbers .now) (c .before .before .before .before .before .before .loop .i) 8 (c .before .before .before .before .before .before .loop .at) n e (c .before .before .before .before .before .before .loop .inv .2) (c .before .before .before .before .before .before .loop .inv .3) (c .before .before .put-number2 .ensures .0)
-    , (row-long (c .before .before .before .before .before .before .before .before .before .args .numbers .now) (c .before .before .before .before .before .before .loop .i) 8 (c .before .before .before .before .before .before .loop .at) _ n e (c .before .before .before .before .before .before .loop .inv .2) (c .before .before .put-number2 .ensures .1 .0), omega (arith, c .before .before .put-number2 .ensures .1 .1)))
+    let e : c .before .before .before .before .before .before .loop .i ≡ 8 = omega arith in (
+      row-laid (c .before .before .before .before .before .before .before .before .before .args .text .now) _ _ (c .before .before .before .before .before .before .before .before .before .args .numbers .now) (c .before .before .before .before .before .before .loop .i) 8 (c .before .before .before .before .before .before .loop .at) n e (c .before .before .before .before .before .before .loop .inv .2) (c .before .before .before .before .before .before .loop .inv .3) (c .before .before .put-number2 .ensures .0),
+      (row-long (c .before .before .before .before .before .before .before .before .before .args .numbers .now) (c .before .before .before .before .before .before .loop .i) 8 (c .before .before .before .before .before .before .loop .at) _ n e (c .before .before .before .before .before .before .loop .inv .2) (c .before .before .put-number2 .ensures .1 .0), omega (arith, c .before .before .put-number2 .ensures .1 .1)),
+    )
 
 pub put-numbers-spec : {M : Type 1} → statement M
 put-numbers-spec =

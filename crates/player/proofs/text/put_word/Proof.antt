@@ -1,49 +1,34 @@
--- <<
 use Prim.Native.Nat.{_<_}
 use mathlib.Core.Path.{_≡_}
 use native.Mathlib.Omega.{arith}
 use Rattle.player.proofs.Texts.{eight, hex-laid}
--- >>
 use borrow.Author.Needs.{needs}
 use Rattle.player.proofs.text.put_word.Statement.{statement}
 use Rattle.player.proofs.text.put_word.Tie as tie
-use Rattle.player.proofs.text.put_word.Reads as reads
-use Rattle.player.proofs.text.put_word.Lts as lts
-use Rattle.io.proofs.hex.Reads as hex-reads
-use Rattle.slices.proofs.copy_over.Reads as copy-over-reads
-use Rattle.slices.proofs.put_byte.Reads as put-byte-reads
 
--- src/text.rt:83:9
 hex-requires : tie.Need-hex-requires
 hex-requires c κs = search needs
 
--- src/text.rt:84:33
 array-share-prefix-digits : tie.Need-array-share-prefix-digits
 array-share-prefix-digits c = search needs
 
--- src/text.rt:84:33
 slice-aggregate-copy-over : tie.Need-slice-aggregate-copy-over
 slice-aggregate-copy-over c = search needs
 
--- src/text.rt:84:5
 copy-over-requires : tie.Need-copy-over-requires
 copy-over-requires c κs = search needs
 
--- src/text.rt:85:28
 add-put-byte : tie.Need-add-put-byte
 add-put-byte c =
     let h : c .before .before .before .before .before .before .hex .result ≡ 8 = eight (c .before .before .before .before .before .before .before .before .before .args .w) (c .before .before .before .before .before .before .hex .result) (omega arith) (c .before .before .before .before .before .before .hex .ensures .1 .0) in
     search needs
 
--- src/text.rt:85:5
 put-byte-requires : tie.Need-put-byte-requires
 put-byte-requires c κs = search needs
 
--- src/text.rt:78:1
 same-length : tie.Need-same-length
 same-length c = search needs
 
--- src/text.rt:78:1
 returns : tie.Need-returns
 returns c =
     let b : c .before .before .before .before .before .before .before .before .before .before .before .before .args .w < 4294967296 = omega arith in

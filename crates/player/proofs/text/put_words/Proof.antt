@@ -1,19 +1,14 @@
--- <<
-use borrow.Author.Needs.{needs}
 use Prim.Native.Nat.{_-_, _≤_}
-use mathlib.Core.Path.{_≡_, refl}
+use mathlib.Core.Path.{refl}
 use native.Mathlib.Omega.{arith}
 use lib.ListN.{length, take, length-take}
 use lib.Seq.{take-all}
 use Rattle.slices.proofs.Over.{Run, run-none, run-more}
 use Rattle.player.specs.Text.{wordsOf}
 use Rattle.player.proofs.Texts.{words-more, length-words}
--- >>
+use borrow.Author.Needs.{needs}
 use Rattle.player.proofs.text.put_words.Statement.{statement}
 use Rattle.player.proofs.text.put_words.Tie as tie
-use Rattle.player.proofs.text.put_words.Reads as reads
-use Rattle.player.proofs.text.put_words.Lts as lts
-use Rattle.player.proofs.text.put_word.Reads as put-word-reads
 
 abbrev Inv-loop : tie.InvT-loop
 Inv-loop text₀ at log i₀ text i = (i ≤ length log) × Run text₀ at (wordsOf (take i log)) text
@@ -21,56 +16,43 @@ Inv-loop text₀ at log i₀ text i = (i ≤ length log) × Run text₀ at (word
 abbrev μ-loop : tie.MeasureT-loop
 μ-loop text₀ at log i₀ text i = length log - i
 
--- src/text.rt:95:5
 loop-holds : tie.Need-loop-holds Inv-loop μ-loop
 unfolding wordsOf
 loop-holds c = (search needs, run-none)
 
--- src/text.rt:96:29
 mul-put-word : tie.Need-mul-put-word Inv-loop μ-loop
 mul-put-word c = search needs
 
--- src/text.rt:96:24
 add-put-word : tie.Need-add-put-word Inv-loop μ-loop
 add-put-word c = search needs
 
--- src/text.rt:96:36
 mul-put-word-2 : tie.Need-mul-put-word-2 Inv-loop μ-loop
 mul-put-word-2 c = search needs
 
--- src/text.rt:96:36
 shared-slice-read-put-word : tie.Need-shared-slice-read-put-word Inv-loop μ-loop
 shared-slice-read-put-word c = search needs
 
--- src/text.rt:96:9
 put-word-requires : tie.Need-put-word-requires Inv-loop μ-loop
 put-word-requires c κs = search needs
 
--- src/text.rt:97:9
 add-i : tie.Need-add-i Inv-loop μ-loop
 add-i c = search needs
 
--- src/text.rt:95:5
 loop-less : tie.Need-loop-less Inv-loop μ-loop
 loop-less c = search needs
 
--- src/text.rt:95:5
 loop-again : tie.Need-loop-again Inv-loop μ-loop
 loop-again c = (search needs, rw (words-more (c .before .before .before .before .before .before .before .before .before .args .log .now) (c .before .before .before .before .before .before .loop .i) (c .before .before .before .before .before .loop-test .taken)) (run-more _ (c .before .before .before .before .before .before .loop .inv .1) (omega (arith, length-words (take (c .before .before .before .before .before .before .loop .i) (c .before .before .before .before .before .before .before .before .before .args .log .now)), length-take (c .before .before .before .before .before .before .loop .i) (c .before .before .before .before .before .before .before .before .before .args .log .now))) (c .before .before .put-word .ensures)))
 
--- src/text.rt:99:10
 mul-result : tie.Need-mul-result Inv-loop μ-loop
 mul-result c = search needs
 
--- src/text.rt:99:5
 add-result : tie.Need-add-result Inv-loop μ-loop
 add-result c = search needs
 
--- src/text.rt:88:1
 same-length : tie.Need-same-length Inv-loop μ-loop
 same-length c = search needs
 
--- src/text.rt:88:1
 returns : tie.Need-returns Inv-loop μ-loop
 returns c = (rw (take-all (c .before .loop .i) (c .before .before .before .before .args .log .now) (c .loop-test .left)) at (c .before .loop .inv .1 .is), refl)
 
