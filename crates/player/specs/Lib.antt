@@ -1,0 +1,3 @@
+pub mod End
+pub mod Input
+pub mod Text

@@ -1,0 +1,110 @@
+// The player: reads calls from standard input, plays each on the driver and prints its lines.
+mod calls;
+mod input;
+mod text;
+
+use cyw43_types::scan::ScanList;
+use cyw43_types::state::State;
+use input::Next;
+ghost use mathlib.Core.Path.{_≡_};
+ghost use Prim.Native.Nat.{_≤_};
+ghost use lib.ListN.{length, replicate};
+ghost use Rattle.player.specs.Input.{outputLength};
+
+// What passes from call to call beside the work buffer.
+struct Session {
+    st: State,
+    list: ScanList,
+    going: bool,
+}
+
+fn ended(s: Session) -> Session {
+    let mut t = s;
+    t.going = false;
+    t
+}
+
+// An empty log.
+fn log_words() -> [u32; 8192]
+    ensures { λ r. ⌜ r ≡ replicate 8192 0 ⌝ }
+    ensures { λ r. ⌜ 8192 ≡ length r ⌝ }
+{
+    [0; 8192]
+}
+
+// Zeros: the work buffer at first, an output's room, and that of the arguments.
+fn zero_bytes() -> [u8; 2048]
+    ensures { λ r. ⌜ r ≡ replicate 2048 0 ⌝ }
+    ensures { λ r. ⌜ 2048 ≡ length r ⌝ }
+{
+    [0; 2048]
+}
+
+// Room for a recording.
+fn recording_words() -> [u32; 4096]
+    ensures { λ r. ⌜ 4096 ≡ length r ⌝ }
+{
+    [0; 4096]
+}
+
+// Room for the lines of a call: nine numbers of at most 20 digits, and 8,192 words.
+fn line_bytes() -> [u8; 73917]
+    ensures { λ r. ⌜ 73917 ≡ length r ⌝ }
+{
+    [0; 73917]
+}
+
+// Plays one call, prints its lines, and goes on if they were written.
+fn play(call: u32, args: &[u8], rec: &[u32], s: Session, buf: &mut [u8], text: &mut [u8]) -> Session
+    requires { ⌜ outputLength call (now args) ≤ 2048 ⌝ }
+    requires { ⌜ 73917 ≤ length (now text) ⌝ }
+{
+    let mut log = log_words();
+    let mut out = zero_bytes();
+    let st = s.st;
+    let list = s.list;
+    let n = input::output_length(call, args);
+    let e = calls::play_call(call, args, st, list, rec, &mut log, buf, &mut out[..n]);
+    let k = text::put_lines(text, call, e, &log);
+    let going = io::write_all(1, &text[..k]);
+    let after = e.st;
+    let heard = e.list;
+    Session {
+        st: after,
+        list: heard,
+        going: going,
+    }
+}
+
+// Reads one call and plays it.
+fn turn(s: Session, buf: &mut [u8], text: &mut [u8]) -> Session
+    requires { ⌜ 73917 ≤ length (now text) ⌝ }
+{
+    let mut args = zero_bytes();
+    let mut rec = recording_words();
+    let next = input::read_call(&mut args, &mut rec);
+    match next {
+        Next::Nothing => ended(s),
+        Next::Bad => {
+            io::write_all(1, b"bad\n");
+            ended(s)
+        }
+        Next::One(call, count, words) => play(call, &args[..count], &rec[..words], s, buf, text),
+    }
+}
+
+// A loop has to end, and nothing says that the input does: turns are counted down from a number that no run uses up.
+fn main() {
+    let mut buf = zero_bytes();
+    let mut text = line_bytes();
+    let mut s = Session {
+        st: cyw43_types::state::fresh(),
+        list: cyw43::fresh_list(),
+        going: true,
+    };
+    let mut turns = u64::MAX;
+    while s.going && turns > 0 {
+        s = turn(s, &mut buf, &mut text);
+        turns -= 1;
+    }
+}
