@@ -1,5 +1,5 @@
 // The fourteen calls with their arguments as bytes. Numbers are le words.
-use cyw43::CallEnd;
+use cyw43_run::standing::CallEnd;
 use cyw43_types::outcome::DriverError;
 use cyw43_types::outcome::Outcome;
 use cyw43_types::outcome::Refusal;
@@ -12,7 +12,7 @@ ghost use Prim.Native.Nat.{ℕ};
 ghost use lib.ListN.{replicate};
 ghost use Rattle.cyw43_definition.specs.Prog.{world};
 ghost use Rattle.cyw43_definition.specs.Player.{nameLength, joinOf, variableOf, playedCall, badArguments};
-ghost use Rattle.player.specs.End.{endOf};
+ghost use Rattle.cyw43_run.specs.Onward.{endOf};
 ghost use Rattle.player.specs.Input.{outputLength, complete};
 
 // Bad arguments: nothing is changed.
@@ -61,7 +61,7 @@ fn init(
     buf: &mut [u8],
 ) -> CallEnd {
     if args.len() == 4 {
-        cyw43::wifi_init(get_le32(args, 0), st, list, rec, log, buf)
+        cyw43::calls::wifi_init(get_le32(args, 0), st, list, rec, log, buf)
     } else {
         refused(st, list)
     }
@@ -77,7 +77,7 @@ fn join(
 ) -> CallEnd {
     if join_fits(args) {
         let n = get_le32(args, 4) as usize;
-        cyw43::wifi_connect(
+        cyw43::calls::wifi_connect(
             get_le32(args, 0),
             &args[8..8 + n],
             &args[8 + n..],
@@ -101,7 +101,7 @@ fn send(
     buf: &mut [u8],
 ) -> CallEnd {
     if 4 <= args.len() {
-        cyw43::send_data(get_le32(args, 0), &args[4..], st, list, rec, log, buf)
+        cyw43::frames::send_data(get_le32(args, 0), &args[4..], st, list, rec, log, buf)
     } else {
         refused(st, list)
     }
@@ -110,7 +110,7 @@ fn send(
 // The output is as long as the argument says.
 fn take(args: &[u8], st: State, list: ScanList, buf: &[u8], out: &mut [u8]) -> CallEnd {
     if args.len() == 4 {
-        cyw43::get_rx_buf(st, list, buf, out)
+        cyw43::frames::get_rx_buf(st, list, buf, out)
     } else {
         refused(st, list)
     }
@@ -125,7 +125,7 @@ fn gpio(
     buf: &mut [u8],
 ) -> CallEnd {
     if args.len() == 8 {
-        cyw43::gpio_set(
+        cyw43::requests::gpio_set(
             get_le32(args, 0),
             get_le32(args, 4),
             st,
@@ -148,7 +148,7 @@ fn get(
     buf: &mut [u8],
 ) -> CallEnd {
     if args.len() == 8 {
-        cyw43::get_ioctl(
+        cyw43::requests::get_ioctl(
             get_le32(args, 0),
             get_le32(args, 4),
             st,
@@ -171,7 +171,7 @@ fn set(
     buf: &mut [u8],
 ) -> CallEnd {
     if args.len() == 12 {
-        cyw43::set_ioctl(
+        cyw43::requests::set_ioctl(
             get_le32(args, 0),
             get_le32(args, 4),
             get_le32(args, 8),
@@ -196,7 +196,7 @@ fn variable(
 ) -> CallEnd {
     if variable_fits(args) {
         let n = name_length(&args[4..]);
-        cyw43::write_iovar(
+        cyw43::requests::write_iovar(
             get_le32(args, 0),
             &args[4..4 + n],
             &args[5 + n..],
@@ -225,12 +225,12 @@ fn plain(
         return refused(st, list);
     }
     match call {
-        2 => cyw43::wifi_scan(st, list, rec, log, buf),
-        4 => cyw43::wifi_disconnect(st, list, rec, log, buf),
-        5 => cyw43::wifi_abort_connect(st, list, rec, log, buf),
-        6 => cyw43::wifi_poll(st, list, rec, log, buf),
-        10 => cyw43::get_mac_addr(st, list, rec, log, buf),
-        _ => cyw43::up(st, list, rec, log, buf),
+        2 => cyw43::calls::wifi_scan(st, list, rec, log, buf),
+        4 => cyw43::calls::wifi_disconnect(st, list, rec, log, buf),
+        5 => cyw43::calls::wifi_abort_connect(st, list, rec, log, buf),
+        6 => cyw43::calls::wifi_poll(st, list, rec, log, buf),
+        10 => cyw43::requests::get_mac_addr(st, list, rec, log, buf),
+        _ => cyw43::requests::up(st, list, rec, log, buf),
     }
 }
 

@@ -98,8 +98,8 @@ fn main() {
     let mut buf = zero_bytes();
     let mut text = line_bytes();
     let mut s = Session {
-        st: cyw43_types::state::fresh(),
-        list: cyw43::fresh_list(),
+        st: cyw43::fresh::fresh_state(),
+        list: cyw43::fresh::fresh_list(),
         going: true,
     };
     let mut turns = u64::MAX;
