@@ -60,30 +60,28 @@ fn print_number(text: &[u8], n: u64) {
     io::print_decimal(1, n);
 }
 
-// How many bytes are not as they were.
-fn changed_bytes(buf: &[u8]) -> usize
-    ensures { λ r. ⌜ r ≤ length (now (buf .entry)) ⌝ }
+fn one_if(b: bool) -> usize
+    ensures { λ r. ⌜ r ≤ 1 ⌝ }
 {
+    if b { 1 } else { 0 }
+}
+
+// How many bytes are not as they were.
+fn changed_bytes(buf: &[u8]) -> usize {
     let mut n = 0;
     let mut i = 0;
     while i < buf.len() {
-        if buf[i] != 0x5A {
-            n += 1;
-        }
+        n += one_if(buf[i] != 0x5A);
         i += 1;
     }
     n
 }
 
-fn changed_words(log: &[u32]) -> usize
-    ensures { λ r. ⌜ r ≤ length (now (log .entry)) ⌝ }
-{
+fn changed_words(log: &[u32]) -> usize {
     let mut n = 0;
     let mut i = 0;
     while i < log.len() {
-        if log[i] != 0xAAAA_AAAA {
-            n += 1;
-        }
+        n += one_if(log[i] != 0xAAAA_AAAA);
         i += 1;
     }
     n
@@ -108,32 +106,38 @@ fn show(e: CallEnd, log: &[u32], buf: &[u8]) {
     print(b"\n");
 }
 
-fn log_of(n: usize)
-    requires { ⌜ n ≤ 16 ⌝ }
+// The first n words of the log and the first m bytes of the buffer are lent.
+fn try_up(n: usize, m: usize, log: &mut [u32], buf: &mut [u8])
+    requires { ⌜ n ≤ length (now log) ⌝ }
+    requires { ⌜ m ≤ length (now buf) ⌝ }
 {
     let rec = recording();
-    let mut log = log_words();
-    let mut buf = work_bytes();
-    print_number(b"log of ", n as u64);
     let e = up(
         fresh_state(),
         fresh_list(),
         &rec,
         &mut log[..n],
-        &mut buf[..2048],
+        &mut buf[..m],
     );
-    show(e, &log, &buf);
+    show(e, log, buf);
+}
+
+fn log_of(n: usize)
+    requires { ⌜ n ≤ 16 ⌝ }
+{
+    let mut log = log_words();
+    let mut buf = work_bytes();
+    print_number(b"log of ", n as u64);
+    try_up(n, 2048, &mut log, &mut buf);
 }
 
 fn buffer_of(n: usize)
     requires { ⌜ n ≤ 2049 ⌝ }
 {
-    let rec = recording();
     let mut log = log_words();
     let mut buf = work_bytes();
     print_number(b"buffer of ", n as u64);
-    let e = up(fresh_state(), fresh_list(), &rec, &mut log, &mut buf[..n]);
-    show(e, &log, &buf);
+    try_up(16, n, &mut log, &mut buf);
 }
 
 fn main() {
