@@ -3,5 +3,5 @@
 pub mod calls;
 pub mod frames;
 pub mod fresh;
-pub mod jobs;
+mod jobs;
 pub mod requests;
