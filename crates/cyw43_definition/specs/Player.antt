@@ -68,7 +68,7 @@ argumentsOf c a =
     (pick (eqb c 13) (variableOf a) (ifLong a 0 Call.up)))))))))))))
 
 -- take's output is as long as its argument says; no other call has one
-abbrev outputOf : ℕ → Bytes → Bytes
+abbrev pub outputOf : ℕ → Bytes → Bytes
 outputOf c a = pick (eqb c 8 && eqb (length a) 4) (replicate (le32At a 0) 0) []
 
 -- ---- input
@@ -128,13 +128,13 @@ lineOf c e = line (c ∷ numbers e) (take (e .len) (e .log))
 -- ---- a session
 
 -- 'The log has 8,192 words.'
-abbrev emptyLog : List ℕ
+abbrev pub emptyLog : List ℕ
 emptyLog = replicate 8192 0
 
-unfoldable pub playedCall : World → List ℕ → Bytes → Arguments → End
-playedCall w recording out (callWith c) = called c w recording emptyLog out
-playedCall w recording out badArguments =
-    shown emptyLog out (finished (Outcome.Refused (Refusal.Driver DriverError.InvalidArg)) [] w)
+unfoldable pub playedCall : World → List ℕ → List ℕ → Bytes → Arguments → End
+playedCall w recording log out (callWith c) = called c w recording log out
+playedCall w recording log out badArguments =
+    shown log out (finished (Outcome.Refused (Refusal.Driver DriverError.InvalidArg)) [] w)
 
 abbrev emptyRecord : ScanRecord
 emptyRecord = record { ssid = replicate 32 0; bssid = replicate 6 0; «ssid_len» = 0; channel = 0; rssi = lib.IntN.pos 0 }
@@ -151,7 +151,7 @@ playFrom zero w i = []
 playFrom (suc n) w nothing = []
 playFrom (suc n) w bad = badLine ∷ []
 playFrom (suc n) w (one c a recording more) =
-    let e = playedCall w recording (outputOf c a) (argumentsOf c a) in
+    let e = playedCall w recording emptyLog (outputOf c a) (argumentsOf c a) in
     lineOf c e ∷ playFrom n (worldOf e) (nextCall more)
 
 -- 'The first call finds a fresh state and a zeroed buffer.' A call takes three words or more.
