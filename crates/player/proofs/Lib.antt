@@ -1,3 +1,4 @@
 pub mod Arguments
+pub mod Plays
 pub mod Read
 pub mod Texts

@@ -1,4 +1,5 @@
 -- What is tested of a call's words and of its arguments. `proofs/Read.antt` has `nextCall` by these tests.
+use mathlib.Core.Path.{_≡_}
 use Prim.Native.Nat.{ℕ, _≤_}
 use mathlib.Core.Bool.{Bool, true, false, _&&_}
 use mathlib.Core.List.{List}
@@ -16,6 +17,10 @@ isCall h = ltb 0xF0000000 h && leb h 0xF000000E
 -- how long the output is that the call writes
 abbrev pub outputLength : ℕ → List ℕ → ℕ
 outputLength c a = pick (eqb c 8 && eqb (length a) 4) (le32At a 0) 0
+
+-- not the number of a call that has arguments
+abbrev pub Plain : ℕ → Type 0
+Plain c = (c ≡ 1 → ⊥) × (c ≡ 3 → ⊥) × (c ≡ 7 → ⊥) × (c ≡ 8 → ⊥) × (c ≡ 9 → ⊥) × (c ≡ 11 → ⊥) × (c ≡ 12 → ⊥) × (c ≡ 13 → ⊥)
 
 -- no argument is missing or left over
 abbrev pub complete : Arguments → Bool

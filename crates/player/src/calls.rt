@@ -7,13 +7,13 @@ use cyw43_types::scan::ScanList;
 use cyw43_types::state::State;
 use slices::get_le32;
 ghost use mathlib.Core.Path.{_≡_};
-ghost use mathlib.Core.List.{List};
+ghost use mathlib.Core.List.{List, []};
 ghost use Prim.Native.Nat.{ℕ};
 ghost use lib.ListN.{replicate};
 ghost use Rattle.cyw43_definition.specs.Prog.{world};
-ghost use Rattle.cyw43_definition.specs.Player.{nameLength, joinOf, variableOf, playedCall, badArguments};
+ghost use Rattle.cyw43_definition.specs.Player.{nameLength, joinOf, variableOf, argumentsOf, playedCall, badArguments};
 ghost use Rattle.cyw43_run.specs.Onward.{endOf};
-ghost use Rattle.player.specs.Input.{outputLength, complete};
+ghost use Rattle.player.specs.Input.{outputLength, complete, Plain};
 
 // Bad arguments: nothing is changed.
 fn refused(st: State, list: ScanList) -> CallEnd
@@ -59,7 +59,10 @@ fn init(
     rec: &[u32],
     log: &mut [u32],
     buf: &mut [u8],
-) -> CallEnd {
+) -> CallEnd
+    requires { ⌜ now log ≡ replicate 8192 0 ⌝ }
+    ensures { λ r. ⌜ endOf r (now (log .exit)) (now (buf .exit)) [] ≡ playedCall (world st (now (buf .entry)) list) (now (rec .entry)) [] (argumentsOf 1 (now (args .entry))) ⌝ }
+{
     if args.len() == 4 {
         cyw43::calls::wifi_init(get_le32(args, 0), st, list, rec, log, buf)
     } else {
@@ -74,7 +77,10 @@ fn join(
     rec: &[u32],
     log: &mut [u32],
     buf: &mut [u8],
-) -> CallEnd {
+) -> CallEnd
+    requires { ⌜ now log ≡ replicate 8192 0 ⌝ }
+    ensures { λ r. ⌜ endOf r (now (log .exit)) (now (buf .exit)) [] ≡ playedCall (world st (now (buf .entry)) list) (now (rec .entry)) [] (argumentsOf 3 (now (args .entry))) ⌝ }
+{
     if join_fits(args) {
         let n = get_le32(args, 4) as usize;
         cyw43::calls::wifi_connect(
@@ -99,7 +105,10 @@ fn send(
     rec: &[u32],
     log: &mut [u32],
     buf: &mut [u8],
-) -> CallEnd {
+) -> CallEnd
+    requires { ⌜ now log ≡ replicate 8192 0 ⌝ }
+    ensures { λ r. ⌜ endOf r (now (log .exit)) (now (buf .exit)) [] ≡ playedCall (world st (now (buf .entry)) list) (now (rec .entry)) [] (argumentsOf 7 (now (args .entry))) ⌝ }
+{
     if 4 <= args.len() {
         cyw43::frames::send_data(get_le32(args, 0), &args[4..], st, list, rec, log, buf)
     } else {
@@ -108,7 +117,10 @@ fn send(
 }
 
 // The output is as long as the argument says.
-fn take(args: &[u8], st: State, list: ScanList, buf: &[u8], out: &mut [u8]) -> CallEnd {
+fn take(args: &[u8], st: State, list: ScanList, buf: &[u8], out: &mut [u8]) -> CallEnd
+    requires { ⌜ now out ≡ replicate (outputLength 8 (now args)) 0 ⌝ }
+    ensures { λ r. ⌜ ((rec : List ℕ) → endOf r (replicate 8192 0) (now (buf .entry)) (now (out .exit)) ≡ playedCall (world st (now (buf .entry)) list) rec (now (out .entry)) (argumentsOf 8 (now (args .entry)))) ⌝ }
+{
     if args.len() == 4 {
         cyw43::frames::get_rx_buf(st, list, buf, out)
     } else {
@@ -123,7 +135,10 @@ fn gpio(
     rec: &[u32],
     log: &mut [u32],
     buf: &mut [u8],
-) -> CallEnd {
+) -> CallEnd
+    requires { ⌜ now log ≡ replicate 8192 0 ⌝ }
+    ensures { λ r. ⌜ endOf r (now (log .exit)) (now (buf .exit)) [] ≡ playedCall (world st (now (buf .entry)) list) (now (rec .entry)) [] (argumentsOf 9 (now (args .entry))) ⌝ }
+{
     if args.len() == 8 {
         cyw43::requests::gpio_set(
             get_le32(args, 0),
@@ -146,7 +161,10 @@ fn get(
     rec: &[u32],
     log: &mut [u32],
     buf: &mut [u8],
-) -> CallEnd {
+) -> CallEnd
+    requires { ⌜ now log ≡ replicate 8192 0 ⌝ }
+    ensures { λ r. ⌜ endOf r (now (log .exit)) (now (buf .exit)) [] ≡ playedCall (world st (now (buf .entry)) list) (now (rec .entry)) [] (argumentsOf 11 (now (args .entry))) ⌝ }
+{
     if args.len() == 8 {
         cyw43::requests::get_ioctl(
             get_le32(args, 0),
@@ -169,7 +187,10 @@ fn set(
     rec: &[u32],
     log: &mut [u32],
     buf: &mut [u8],
-) -> CallEnd {
+) -> CallEnd
+    requires { ⌜ now log ≡ replicate 8192 0 ⌝ }
+    ensures { λ r. ⌜ endOf r (now (log .exit)) (now (buf .exit)) [] ≡ playedCall (world st (now (buf .entry)) list) (now (rec .entry)) [] (argumentsOf 12 (now (args .entry))) ⌝ }
+{
     if args.len() == 12 {
         cyw43::requests::set_ioctl(
             get_le32(args, 0),
@@ -193,7 +214,10 @@ fn variable(
     rec: &[u32],
     log: &mut [u32],
     buf: &mut [u8],
-) -> CallEnd {
+) -> CallEnd
+    requires { ⌜ now log ≡ replicate 8192 0 ⌝ }
+    ensures { λ r. ⌜ endOf r (now (log .exit)) (now (buf .exit)) [] ≡ playedCall (world st (now (buf .entry)) list) (now (rec .entry)) [] (argumentsOf 13 (now (args .entry))) ⌝ }
+{
     if variable_fits(args) {
         let n = name_length(&args[4..]);
         cyw43::requests::write_iovar(
@@ -220,7 +244,11 @@ fn plain(
     rec: &[u32],
     log: &mut [u32],
     buf: &mut [u8],
-) -> CallEnd {
+) -> CallEnd
+    requires { ⌜ now log ≡ replicate 8192 0 ⌝ }
+    requires { ⌜ Plain call ⌝ }
+    ensures { λ r. ⌜ endOf r (now (log .exit)) (now (buf .exit)) [] ≡ playedCall (world st (now (buf .entry)) list) (now (rec .entry)) [] (argumentsOf call (now (args .entry))) ⌝ }
+{
     if args.len() != 0 {
         return refused(st, list);
     }
@@ -247,6 +275,7 @@ pub fn play_call(
 ) -> CallEnd
     requires { ⌜ now log ≡ replicate 8192 0 ⌝ }
     requires { ⌜ now out ≡ replicate (outputLength call (now args)) 0 ⌝ }
+    ensures { λ r. ⌜ endOf r (now (log .exit)) (now (buf .exit)) (now (out .exit)) ≡ playedCall (world st (now (buf .entry)) list) (now (rec .entry)) (now (out .entry)) (argumentsOf call (now (args .entry))) ⌝ }
 {
     match call {
         1 => init(args, st, list, rec, log, buf),

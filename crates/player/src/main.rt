@@ -9,7 +9,11 @@ use input::Next;
 ghost use mathlib.Core.Path.{_≡_};
 ghost use Prim.Native.Nat.{_≤_};
 ghost use lib.ListN.{length, replicate};
+ghost use Rattle.cyw43_definition.specs.Prog.{world};
+ghost use Rattle.cyw43_definition.specs.Player.{lineOf};
 ghost use Rattle.player.specs.Input.{outputLength};
+ghost use Rattle.player.specs.Play.{callEnd, worldAfter, Fronts};
+ghost use Rattle.player.specs.Text.{textOf};
 
 // What passes from call to call beside the work buffer.
 struct Session {
@@ -58,6 +62,8 @@ fn line_bytes() -> [u8; 73917]
 fn play(call: u32, args: &[u8], rec: &[u32], s: Session, buf: &mut [u8], text: &mut [u8]) -> Session
     requires { ⌜ outputLength call (now args) ≤ 2048 ⌝ }
     requires { ⌜ 73917 ≤ length (now text) ⌝ }
+    ensures { λ r. ⌜ world (r .st) (now (buf .exit)) (r .list) ≡ worldAfter (callEnd (world (s .st) (now (buf .entry)) (s .list)) (now (rec .entry)) call (now (args .entry))) ⌝ }
+    ensures { λ _. ⌜ Fronts (textOf (lineOf call (callEnd (world (s .st) (now (buf .entry)) (s .list)) (now (rec .entry)) call (now (args .entry))))) (now (text .exit)) ⌝ }
 {
     let mut log = log_words();
     let mut out = zero_bytes();

@@ -18,8 +18,8 @@ zero-bytes-requires c κs = search needs
 line-bytes-requires : tie.Need-line-bytes-requires Inv-loop μ-loop
 line-bytes-requires c κs = search needs
 
-fresh-requires : tie.Need-fresh-requires Inv-loop μ-loop
-fresh-requires c κs = search needs
+fresh-state-requires : tie.Need-fresh-state-requires Inv-loop μ-loop
+fresh-state-requires c κs = search needs
 
 fresh-list-requires : tie.Need-fresh-list-requires Inv-loop μ-loop
 fresh-list-requires c κs = search needs
@@ -59,7 +59,7 @@ main-spec =
     μ-loop
     zero-bytes-requires
     line-bytes-requires
-    fresh-requires
+    fresh-state-requires
     fresh-list-requires
     loop-holds
     slice-aggregate-turn

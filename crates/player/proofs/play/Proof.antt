@@ -1,3 +1,6 @@
+use Rattle.cyw43_definition.specs.Prog.{world}
+use mathlib.Core.List.{[]}
+use Rattle.player.proofs.Plays.{carried, shows}
 use native.Mathlib.Omega.{arith}
 use lib.ListN.{length-take}
 use Rattle.player.proofs.Arguments.{output-zeros}
@@ -48,7 +51,10 @@ same-length-2 : tie.Need-same-length-2
 same-length-2 c = search needs
 
 returns : tie.Need-returns
-returns c = search needs
+returns c =
+    let z = output-zeros _ _ _ (c .before .before .before .before .before .before .before .before .before .before .before .before .before .before .before .before .before .before .before .before .zero-bytes .ensures .0) (c .before .before .before .before .before .before .before .before .before .before .before .before .before .before .before .before .before .output-length .ensures) (c .before .before .before .before .before .before .before .before .before .before .before .before .before .before .before .before .before .before .before .before .before .before .before .before .before .before .pre .0) in
+    let w = world (c .before .before .before .before .before .before .before .before .before .before .before .before .before .before .before .before .before .before .before .before .before .before .before .before .before .before .args .s .st) (c .before .before .before .before .before .before .before .before .before .before .before .before .before .before .before .before .before .before .before .before .before .before .before .before .before .before .args .buf .now) (c .before .before .before .before .before .before .before .before .before .before .before .before .before .before .before .before .before .before .before .before .before .before .before .before .before .before .args .s .list) in
+    (carried _ w _ _ _ _ _ _ _ z (c .before .before .before .before .before .before .before .before .before .before .before .before .before .play-call .ensures), shows _ w _ _ _ _ _ _ _ _ _ z (c .before .before .before .before .before .before .before .before .before .before .before .before .before .play-call .ensures) (c .before .before .before .before .before .before .put-lines .ensures .0 [] []) (c .before .before .before .before .before .before .put-lines .ensures .1))
 
 pub play-spec : {M : Type 1} → statement M
 play-spec =
