@@ -1,4 +1,4 @@
--- What the call comes to that is played on an empty log.
+-- What the call comes to that is played.
 use mathlib.Core.Path.{_≡_, refl, ap, sym, _∙_}
 use mathlib.Core.Bool.{Bool, true, false, _&&_}
 use mathlib.Core.List.{List, [], _∷_}
@@ -14,7 +14,7 @@ use Rattle.slices.proofs.Over.{part-rest}
 use Rattle.cyw43_definition.specs.Prog.{World, world}
 use Rattle.cyw43_definition.specs.Calls.{Call}
 use Rattle.cyw43_definition.specs.Run.{End, called}
-use Rattle.cyw43_definition.specs.Player.{Arguments, callWith, badArguments, nameLength, joinOf, variableOf, argumentsOf, playedCall, lineOf, one, nextCall, playFrom}
+use Rattle.cyw43_definition.specs.Player.{Arguments, callWith, badArguments, nameLength, joinOf, variableOf, argumentsOf, emptyLog, playedCall, lineOf, one, nextCall, playFrom}
 use Rattle.cyw43_run.specs.declared.standing.CallEnd.{CallEnd}
 use Rattle.cyw43_run.specs.Onward.{endOf}
 use Rattle.player.specs.Input.{outputLength, Plain, complete}
@@ -25,39 +25,39 @@ use Rattle.player.proofs.Arguments.{join-complete, variable-complete}
 -- ---- the end of the call
 
 -- the arguments are a call's
-pub played : (c : Call) (w : World) (rec log out : List ℕ) (x : Arguments) (e : End) → log ≡ replicate 8192 0 → x ≡ callWith c
-    → e ≡ called c w rec log out → e ≡ playedCall w rec out x
+pub played : (c : Call) (w : World) (rec log out : List ℕ) (x : Arguments) (e : End) → x ≡ callWith c → e ≡ called c w rec log out → e ≡ playedCall w rec log out x
 unfolding playedCall
-played c w rec log out x e el ex h =
-    h ∙ (ap (λ (l : List ℕ). called c w rec l out) el ∙ ap (λ (y : Arguments). playedCall w rec out y) (sym ex))
+played c w rec log out x e ex h = h ∙ ap (λ (y : Arguments). playedCall w rec log out y) (sym ex)
 
 -- the log is not written
-pub unlogged : (r : CallEnd) (w : World) (buf rec log out after : List ℕ) (x y : Arguments) → log ≡ replicate 8192 0 → x ≡ y
-    → endOf r (replicate 8192 0) buf after ≡ playedCall w rec out y → endOf r log buf after ≡ playedCall w rec out x
-unlogged r w buf rec log out after x y el ex h =
-    ap (λ (l : List ℕ). endOf r l buf after) el ∙ (h ∙ ap (λ (z : Arguments). playedCall w rec out z) (sym ex))
+pub unlogged : (r : CallEnd) (w : World) (buf rec log log₀ out after : List ℕ) (x y : Arguments) → x ≡ y → endOf r log buf after ≡ playedCall w rec log₀ out y → endOf r log buf after ≡ playedCall w rec log₀ out x
+unlogged r w buf rec log log₀ out after x y ex h = h ∙ ap (λ (z : Arguments). playedCall w rec log₀ out z) (sym ex)
 
 no-output : (n : ℕ) (a out : List ℕ) → eqb n 8 ≡ false → out ≡ replicate (outputLength n a) 0 → out ≡ []
 no-output n a out h e = rw (e, h)
 
 -- no output, and the call's number
-pub outputless : (r : CallEnd) (w : World) (buf rec log out a : List ℕ) (n k : ℕ) → n ≡ k → eqb k 8 ≡ false
-    → out ≡ replicate (outputLength n a) 0 → endOf r log buf [] ≡ playedCall w rec [] (argumentsOf k a)
-    → endOf r log buf out ≡ playedCall w rec out (argumentsOf n a)
-outputless r w buf rec log out a n k en h eo p = rw (no-output n a out (rw en h) eo, en) p
+pub outputless : (r : CallEnd) (w : World) (buf rec log log₀ out a : List ℕ) (n k : ℕ) → n ≡ k → eqb k 8 ≡ false
+    → out ≡ replicate (outputLength n a) 0 → endOf r log buf [] ≡ playedCall w rec log₀ [] (argumentsOf k a)
+    → endOf r log buf out ≡ playedCall w rec log₀ out (argumentsOf n a)
+outputless r w buf rec log log₀ out a n k en h eo p = rw (no-output n a out (rw en h) eo, en) p
 
 -- the state, the list and the buffer that are handed on
-pub carried : (r : CallEnd) (w : World) (buf rec log out after a : List ℕ) (n : ℕ) → out ≡ replicate (outputLength n a) 0
-    → endOf r log buf after ≡ playedCall w rec out (argumentsOf n a) → world (r .st) buf (r .list) ≡ worldAfter (callEnd w rec n a)
-carried r w buf rec log out after a n eo p = ap worldAfter p ∙ ap (λ (o : List ℕ). worldAfter (playedCall w rec o (argumentsOf n a))) eo
+pub carried : (r : CallEnd) (w : World) (buf rec log log₀ out after a : List ℕ) (n : ℕ) → log₀ ≡ emptyLog → out ≡ replicate (outputLength n a) 0
+    → endOf r log buf after ≡ playedCall w rec log₀ out (argumentsOf n a) → world (r .st) buf (r .list) ≡ worldAfter (callEnd w rec n a)
+carried r w buf rec log log₀ out after a n el eo p =
+    ap worldAfter p
+    ∙ (ap (λ (l : List ℕ). worldAfter (playedCall w rec l out (argumentsOf n a))) el ∙ ap (λ (o : List ℕ). worldAfter (playedCall w rec emptyLog o (argumentsOf n a))) eo)
 
 -- the text's front is the call's lines
-pub shows : (r : CallEnd) (w : World) (buf rec log out after a text : List ℕ) (n k : ℕ) → out ≡ replicate (outputLength n a) 0
-    → endOf r log buf after ≡ playedCall w rec out (argumentsOf n a) → take k text ≡ textOf (lineOf n (endOf r log buf after)) → k ≤ length text
+pub shows : (r : CallEnd) (w : World) (buf rec log log₀ out after a text : List ℕ) (n k : ℕ) → log₀ ≡ emptyLog → out ≡ replicate (outputLength n a) 0
+    → endOf r log buf after ≡ playedCall w rec log₀ out (argumentsOf n a) → take k text ≡ textOf (lineOf n (endOf r log buf after)) → k ≤ length text
     → Fronts (textOf (lineOf n (callEnd w rec n a))) text
-shows r w buf rec log out after a text n k eo p t l =
+shows r w buf rec log log₀ out after a text n k el eo p t l =
     let q : take k text ≡ textOf (lineOf n (callEnd w rec n a)) =
-    t ∙ (ap (λ (e : End). textOf (lineOf n e)) p ∙ ap (λ (o : List ℕ). textOf (lineOf n (playedCall w rec o (argumentsOf n a)))) eo) in
+    t
+    ∙ (ap (λ (e : End). textOf (lineOf n e)) p
+    ∙ (ap (λ (l : List ℕ). textOf (lineOf n (playedCall w rec l out (argumentsOf n a)))) el ∙ ap (λ (o : List ℕ). textOf (lineOf n (playedCall w rec emptyLog o (argumentsOf n a)))) eo)) in
     let m : length (take k text) ≡ k = length-take-le k text l in
     rw (← q, m)
 

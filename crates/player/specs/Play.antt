@@ -5,12 +5,12 @@ use mathlib.Core.List.{List}
 use lib.ListN.{length, take, replicate}
 use Rattle.cyw43_definition.specs.Prog.{World, world}
 use Rattle.cyw43_definition.specs.Run.{End}
-use Rattle.cyw43_definition.specs.Player.{argumentsOf, playedCall}
+use Rattle.cyw43_definition.specs.Player.{argumentsOf, emptyLog, playedCall}
 use Rattle.player.specs.Input.{outputLength}
 
 -- a: the argument bytes
 abbrev pub callEnd : World → List ℕ → ℕ → List ℕ → End
-callEnd w recording c a = playedCall w recording (replicate (outputLength c a) 0) (argumentsOf c a)
+callEnd w recording c a = playedCall w recording emptyLog (replicate (outputLength c a) 0) (argumentsOf c a)
 
 -- what the next call finds
 abbrev pub worldAfter : End → World

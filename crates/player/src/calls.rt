@@ -17,7 +17,7 @@ ghost use Rattle.player.specs.Input.{outputLength, complete, Plain};
 
 // Bad arguments: nothing is changed.
 fn refused(st: State, list: ScanList) -> CallEnd
-    ensures { λ r. ⌜ ((rec buf out : List ℕ) → endOf r (replicate 8192 0) buf out ≡ playedCall (world st buf list) rec out badArguments) ⌝ }
+    ensures { λ r. ⌜ ((rec log buf out : List ℕ) → endOf r log buf out ≡ playedCall (world st buf list) rec log out badArguments) ⌝ }
 {
     CallEnd {
         outcome: Outcome::Refused(Refusal::Driver(DriverError::InvalidArg)),
@@ -60,8 +60,7 @@ fn init(
     log: &mut [u32],
     buf: &mut [u8],
 ) -> CallEnd
-    requires { ⌜ now log ≡ replicate 8192 0 ⌝ }
-    ensures { λ r. ⌜ endOf r (now (log .exit)) (now (buf .exit)) [] ≡ playedCall (world st (now (buf .entry)) list) (now (rec .entry)) [] (argumentsOf 1 (now (args .entry))) ⌝ }
+    ensures { λ r. ⌜ endOf r (now (log .exit)) (now (buf .exit)) [] ≡ playedCall (world st (now (buf .entry)) list) (now (rec .entry)) (now (log .entry)) [] (argumentsOf 1 (now (args .entry))) ⌝ }
 {
     if args.len() == 4 {
         cyw43::calls::wifi_init(get_le32(args, 0), st, list, rec, log, buf)
@@ -78,8 +77,7 @@ fn join(
     log: &mut [u32],
     buf: &mut [u8],
 ) -> CallEnd
-    requires { ⌜ now log ≡ replicate 8192 0 ⌝ }
-    ensures { λ r. ⌜ endOf r (now (log .exit)) (now (buf .exit)) [] ≡ playedCall (world st (now (buf .entry)) list) (now (rec .entry)) [] (argumentsOf 3 (now (args .entry))) ⌝ }
+    ensures { λ r. ⌜ endOf r (now (log .exit)) (now (buf .exit)) [] ≡ playedCall (world st (now (buf .entry)) list) (now (rec .entry)) (now (log .entry)) [] (argumentsOf 3 (now (args .entry))) ⌝ }
 {
     if join_fits(args) {
         let n = get_le32(args, 4) as usize;
@@ -106,8 +104,7 @@ fn send(
     log: &mut [u32],
     buf: &mut [u8],
 ) -> CallEnd
-    requires { ⌜ now log ≡ replicate 8192 0 ⌝ }
-    ensures { λ r. ⌜ endOf r (now (log .exit)) (now (buf .exit)) [] ≡ playedCall (world st (now (buf .entry)) list) (now (rec .entry)) [] (argumentsOf 7 (now (args .entry))) ⌝ }
+    ensures { λ r. ⌜ endOf r (now (log .exit)) (now (buf .exit)) [] ≡ playedCall (world st (now (buf .entry)) list) (now (rec .entry)) (now (log .entry)) [] (argumentsOf 7 (now (args .entry))) ⌝ }
 {
     if 4 <= args.len() {
         cyw43::frames::send_data(get_le32(args, 0), &args[4..], st, list, rec, log, buf)
@@ -119,7 +116,7 @@ fn send(
 // The output is as long as the argument says.
 fn take(args: &[u8], st: State, list: ScanList, buf: &[u8], out: &mut [u8]) -> CallEnd
     requires { ⌜ now out ≡ replicate (outputLength 8 (now args)) 0 ⌝ }
-    ensures { λ r. ⌜ ((rec : List ℕ) → endOf r (replicate 8192 0) (now (buf .entry)) (now (out .exit)) ≡ playedCall (world st (now (buf .entry)) list) rec (now (out .entry)) (argumentsOf 8 (now (args .entry)))) ⌝ }
+    ensures { λ r. ⌜ ((rec log : List ℕ) → endOf r log (now (buf .entry)) (now (out .exit)) ≡ playedCall (world st (now (buf .entry)) list) rec log (now (out .entry)) (argumentsOf 8 (now (args .entry)))) ⌝ }
 {
     if args.len() == 4 {
         cyw43::frames::get_rx_buf(st, list, buf, out)
@@ -136,8 +133,7 @@ fn gpio(
     log: &mut [u32],
     buf: &mut [u8],
 ) -> CallEnd
-    requires { ⌜ now log ≡ replicate 8192 0 ⌝ }
-    ensures { λ r. ⌜ endOf r (now (log .exit)) (now (buf .exit)) [] ≡ playedCall (world st (now (buf .entry)) list) (now (rec .entry)) [] (argumentsOf 9 (now (args .entry))) ⌝ }
+    ensures { λ r. ⌜ endOf r (now (log .exit)) (now (buf .exit)) [] ≡ playedCall (world st (now (buf .entry)) list) (now (rec .entry)) (now (log .entry)) [] (argumentsOf 9 (now (args .entry))) ⌝ }
 {
     if args.len() == 8 {
         cyw43::requests::gpio_set(
@@ -162,8 +158,7 @@ fn get(
     log: &mut [u32],
     buf: &mut [u8],
 ) -> CallEnd
-    requires { ⌜ now log ≡ replicate 8192 0 ⌝ }
-    ensures { λ r. ⌜ endOf r (now (log .exit)) (now (buf .exit)) [] ≡ playedCall (world st (now (buf .entry)) list) (now (rec .entry)) [] (argumentsOf 11 (now (args .entry))) ⌝ }
+    ensures { λ r. ⌜ endOf r (now (log .exit)) (now (buf .exit)) [] ≡ playedCall (world st (now (buf .entry)) list) (now (rec .entry)) (now (log .entry)) [] (argumentsOf 11 (now (args .entry))) ⌝ }
 {
     if args.len() == 8 {
         cyw43::requests::get_ioctl(
@@ -188,8 +183,7 @@ fn set(
     log: &mut [u32],
     buf: &mut [u8],
 ) -> CallEnd
-    requires { ⌜ now log ≡ replicate 8192 0 ⌝ }
-    ensures { λ r. ⌜ endOf r (now (log .exit)) (now (buf .exit)) [] ≡ playedCall (world st (now (buf .entry)) list) (now (rec .entry)) [] (argumentsOf 12 (now (args .entry))) ⌝ }
+    ensures { λ r. ⌜ endOf r (now (log .exit)) (now (buf .exit)) [] ≡ playedCall (world st (now (buf .entry)) list) (now (rec .entry)) (now (log .entry)) [] (argumentsOf 12 (now (args .entry))) ⌝ }
 {
     if args.len() == 12 {
         cyw43::requests::set_ioctl(
@@ -215,8 +209,7 @@ fn variable(
     log: &mut [u32],
     buf: &mut [u8],
 ) -> CallEnd
-    requires { ⌜ now log ≡ replicate 8192 0 ⌝ }
-    ensures { λ r. ⌜ endOf r (now (log .exit)) (now (buf .exit)) [] ≡ playedCall (world st (now (buf .entry)) list) (now (rec .entry)) [] (argumentsOf 13 (now (args .entry))) ⌝ }
+    ensures { λ r. ⌜ endOf r (now (log .exit)) (now (buf .exit)) [] ≡ playedCall (world st (now (buf .entry)) list) (now (rec .entry)) (now (log .entry)) [] (argumentsOf 13 (now (args .entry))) ⌝ }
 {
     if variable_fits(args) {
         let n = name_length(&args[4..]);
@@ -245,9 +238,8 @@ fn plain(
     log: &mut [u32],
     buf: &mut [u8],
 ) -> CallEnd
-    requires { ⌜ now log ≡ replicate 8192 0 ⌝ }
     requires { ⌜ Plain call ⌝ }
-    ensures { λ r. ⌜ endOf r (now (log .exit)) (now (buf .exit)) [] ≡ playedCall (world st (now (buf .entry)) list) (now (rec .entry)) [] (argumentsOf call (now (args .entry))) ⌝ }
+    ensures { λ r. ⌜ endOf r (now (log .exit)) (now (buf .exit)) [] ≡ playedCall (world st (now (buf .entry)) list) (now (rec .entry)) (now (log .entry)) [] (argumentsOf call (now (args .entry))) ⌝ }
 {
     if args.len() != 0 {
         return refused(st, list);
@@ -262,7 +254,7 @@ fn plain(
     }
 }
 
-// The call of that number, on an empty log and an output of zeros.
+// The call of that number, on an output of zeros.
 pub fn play_call(
     call: u32,
     args: &[u8],
@@ -273,9 +265,8 @@ pub fn play_call(
     buf: &mut [u8],
     out: &mut [u8],
 ) -> CallEnd
-    requires { ⌜ now log ≡ replicate 8192 0 ⌝ }
     requires { ⌜ now out ≡ replicate (outputLength call (now args)) 0 ⌝ }
-    ensures { λ r. ⌜ endOf r (now (log .exit)) (now (buf .exit)) (now (out .exit)) ≡ playedCall (world st (now (buf .entry)) list) (now (rec .entry)) (now (out .entry)) (argumentsOf call (now (args .entry))) ⌝ }
+    ensures { λ r. ⌜ endOf r (now (log .exit)) (now (buf .exit)) (now (out .exit)) ≡ playedCall (world st (now (buf .entry)) list) (now (rec .entry)) (now (log .entry)) (now (out .entry)) (argumentsOf call (now (args .entry))) ⌝ }
 {
     match call {
         1 => init(args, st, list, rec, log, buf),

@@ -27,7 +27,7 @@ slice-aggregate-play-call-2 : tie.Need-slice-aggregate-play-call-2
 slice-aggregate-play-call-2 c = simp length-take (omega arith)
 
 play-call-requires : tie.Need-play-call-requires
-play-call-requires c κs = (c .before .before .before .before .before .before .before .log-words .ensures .0, output-zeros _ _ _ (c .before .before .before .before .before .before .zero-bytes .ensures .0) (c .before .before .before .output-length .ensures) (c .before .before .before .before .before .before .before .before .before .before .before .before .pre .0))
+play-call-requires c κs = output-zeros _ _ _ (c .before .before .before .before .before .before .zero-bytes .ensures .0) (c .before .before .before .output-length .ensures) (c .before .before .before .before .before .before .before .before .before .before .before .before .pre .0)
 
 slice-aggregate-put-lines : tie.Need-slice-aggregate-put-lines
 slice-aggregate-put-lines c = search needs
@@ -52,9 +52,10 @@ same-length-2 c = search needs
 
 returns : tie.Need-returns
 returns c =
+    let el = c .before .before .before .before .before .before .before .before .before .before .before .before .before .before .before .before .before .before .before .before .before .log-words .ensures .0 in
     let z = output-zeros _ _ _ (c .before .before .before .before .before .before .before .before .before .before .before .before .before .before .before .before .before .before .before .before .zero-bytes .ensures .0) (c .before .before .before .before .before .before .before .before .before .before .before .before .before .before .before .before .before .output-length .ensures) (c .before .before .before .before .before .before .before .before .before .before .before .before .before .before .before .before .before .before .before .before .before .before .before .before .before .before .pre .0) in
     let w = world (c .before .before .before .before .before .before .before .before .before .before .before .before .before .before .before .before .before .before .before .before .before .before .before .before .before .before .args .s .st) (c .before .before .before .before .before .before .before .before .before .before .before .before .before .before .before .before .before .before .before .before .before .before .before .before .before .before .args .buf .now) (c .before .before .before .before .before .before .before .before .before .before .before .before .before .before .before .before .before .before .before .before .before .before .before .before .before .before .args .s .list) in
-    (carried _ w _ _ _ _ _ _ _ z (c .before .before .before .before .before .before .before .before .before .before .before .before .before .play-call .ensures), shows _ w _ _ _ _ _ _ _ _ _ z (c .before .before .before .before .before .before .before .before .before .before .before .before .before .play-call .ensures) (c .before .before .before .before .before .before .put-lines .ensures .0 [] []) (c .before .before .before .before .before .before .put-lines .ensures .1))
+    (carried _ w _ _ _ _ _ _ _ _ el z (c .before .before .before .before .before .before .before .before .before .before .before .before .before .play-call .ensures), shows _ w _ _ _ _ _ _ _ _ _ _ el z (c .before .before .before .before .before .before .before .before .before .before .before .before .before .play-call .ensures) (c .before .before .before .before .before .before .put-lines .ensures .0 [] []) (c .before .before .before .before .before .before .put-lines .ensures .1))
 
 pub play-spec : {M : Type 1} → statement M
 play-spec =

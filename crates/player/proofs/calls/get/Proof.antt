@@ -22,10 +22,10 @@ same-length-2 : tie.Need-same-length-2
 same-length-2 c = search needs
 
 returns : tie.Need-returns
-returns c = played _ _ _ _ _ _ _ (c .before .before .before .before .before .before .before .before .before .before .before .before .before .before .pre) (get-is _ (c .before .before .before .before .before .before .before .before .before .if1 .taken)) (rw (c .before .before .before .before .before .before .before .before .get-le32 .ensures, c .before .before .before .before .before .before .before .get-le322 .ensures) at (c .before .before .before .before .get-ioctl .ensures))
+returns c = played _ _ _ _ _ _ _ (get-is _ (c .before .before .before .before .before .before .before .before .before .if1 .taken)) (rw (c .before .before .before .before .before .before .before .before .get-le32 .ensures, c .before .before .before .before .before .before .before .get-le322 .ensures) at (c .before .before .before .before .get-ioctl .ensures))
 
 returns-2 : tie.Need-returns-2
-returns-2 c = unlogged _ _ _ _ _ _ _ _ _ (c .before .before .before .before .before .before .pre) (get-bad _ (c .before .if1 .left)) (c .refused .ensures _ _ _)
+returns-2 c = unlogged _ _ _ _ _ _ _ _ _ _ (get-bad _ (c .before .if1 .left)) (c .refused .ensures _ _ _ _)
 
 pub get-spec : {M : Type 1} → statement M
 get-spec =

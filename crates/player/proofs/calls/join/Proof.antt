@@ -60,11 +60,11 @@ same-length-2 c = search needs
 
 returns : tie.Need-returns
 unfolding argumentsOf
-returns c = played _ _ _ _ _ _ _ (c .before .before .before .before .before .before .before .before .before .before .before .before .before .before .before .before .before .pre) (join-is _ _ (c .before .before .before .before .before .before .before .before .before .before .get-le32 .ensures) (sym (c .before .before .before .before .before .before .before .before .before .before .before .before .join-fits .ensures) ∙ c .before .before .before .before .before .before .before .before .before .before .before .if1 .taken)) (rw (c .before .before .before .before .before .before .before .before .before .get-le322 .ensures) at (c .before .before .before .before .wifi-connect .ensures))
+returns c = played _ _ _ _ _ _ _ (join-is _ _ (c .before .before .before .before .before .before .before .before .before .before .get-le32 .ensures) (sym (c .before .before .before .before .before .before .before .before .before .before .before .before .join-fits .ensures) ∙ c .before .before .before .before .before .before .before .before .before .before .before .if1 .taken)) (rw (c .before .before .before .before .before .before .before .before .before .get-le322 .ensures) at (c .before .before .before .before .wifi-connect .ensures))
 
 returns-2 : tie.Need-returns-2
 unfolding argumentsOf
-returns-2 c = unlogged _ _ _ _ _ _ _ _ _ (c .before .before .before .before .before .before .before .pre) (incomplete _ (sym (c .before .before .join-fits .ensures) ∙ c .before .if1 .left)) (c .refused .ensures _ _ _)
+returns-2 c = unlogged _ _ _ _ _ _ _ _ _ _ (incomplete _ (sym (c .before .before .join-fits .ensures) ∙ c .before .if1 .left)) (c .refused .ensures _ _ _ _)
 
 pub join-spec : {M : Type 1} → statement M
 join-spec =

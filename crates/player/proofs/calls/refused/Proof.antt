@@ -6,7 +6,7 @@ use Rattle.player.proofs.calls.refused.Tie as tie
 
 returns : tie.Need-returns
 unfolding playedCall
-returns c = λ rec buf out. ended _ (world (c .args .st) buf (c .args .list)) _ out
+returns c = λ rec log buf out. ended _ (world (c .args .st) buf (c .args .list)) log out
 
 pub refused-spec : {M : Type 1} → statement M
 refused-spec = tie.close (tie.spec returns)

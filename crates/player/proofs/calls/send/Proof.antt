@@ -28,10 +28,10 @@ same-length-2 : tie.Need-same-length-2
 same-length-2 c = search needs
 
 returns : tie.Need-returns
-returns c = played _ _ _ _ _ _ _ (c .before .before .before .before .before .before .before .before .before .before .before .before .before .before .pre) (send-is _ (c .before .before .before .before .before .before .before .before .before .if1 .taken)) (rw (c .before .before .before .before .before .before .before .before .get-le32 .ensures) at (c .before .before .before .before .send-data .ensures))
+returns c = played _ _ _ _ _ _ _ (send-is _ (c .before .before .before .before .before .before .before .before .before .if1 .taken)) (rw (c .before .before .before .before .before .before .before .before .get-le32 .ensures) at (c .before .before .before .before .send-data .ensures))
 
 returns-2 : tie.Need-returns-2
-returns-2 c = unlogged _ _ _ _ _ _ _ _ _ (c .before .before .before .before .before .before .pre) (send-bad _ (c .before .if1 .left)) (c .refused .ensures _ _ _)
+returns-2 c = unlogged _ _ _ _ _ _ _ _ _ _ (send-bad _ (c .before .if1 .left)) (c .refused .ensures _ _ _ _)
 
 pub send-spec : {M : Type 1} → statement M
 send-spec =

@@ -1,4 +1,3 @@
-use mathlib.Core.Path.{refl}
 use Rattle.player.proofs.Plays.{played, unlogged, take-is, take-bad}
 use borrow.Author.Needs.{needs}
 use Rattle.player.proofs.calls.take.Statement.{statement}
@@ -14,10 +13,10 @@ same-length : tie.Need-same-length
 same-length c = search needs
 
 returns : tie.Need-returns
-returns c = λ rec. played _ _ _ _ _ _ _ refl (take-is _ _ (c .before .before .before .before .before .before .before .before .pre) (c .before .before .before .before .if1 .taken)) (c .before .before .get-rx-buf .ensures rec _)
+returns c = λ rec log. played _ _ _ _ _ _ _ (take-is _ _ (c .before .before .before .before .before .before .before .before .pre) (c .before .before .before .before .if1 .taken)) (c .before .before .get-rx-buf .ensures rec log)
 
 returns-2 : tie.Need-returns-2
-returns-2 c = λ rec. unlogged _ _ _ _ _ _ _ _ _ refl (take-bad _ (c .before .if1 .left)) (c .refused .ensures rec _ _)
+returns-2 c = λ rec log. unlogged _ _ _ _ _ _ _ _ _ _ (take-bad _ (c .before .if1 .left)) (c .refused .ensures rec log _ _)
 
 pub take-spec : {M : Type 1} → statement M
 take-spec = tie.close (tie.spec get-rx-buf-requires refused-requires same-length returns returns-2)
