@@ -65,7 +65,7 @@ pub over-size : (b b′ : Bytes) (at : ℕ) (s s′ : Bytes) → length b ≡ le
 over-size b b′ at s s′ e = length-over b at s ∙ e ∙ sym (length-over b′ at s′)
 
 pub take-alike : (b b′ : Bytes) (n : ℕ) → length b ≡ length b′ → ((i : ℕ) → i < n → Alike b b′ i) → take n b ≡ take n b′
-take-alike b b′ n e f = ext-getD 0 _ _ (rw (length-take, length-take, e)) at
+take-alike b b′ n e f = ext-getD 0 _ _ (rw (length-take n b, length-take n b′, e)) at
   where
     at : (i : ℕ) → i < length (take n b) → Alike (take n b) (take n b′) i
     at i u =
@@ -77,7 +77,7 @@ abbrev pub Part : ℕ → ℕ → Bytes → Bytes → Type 0
 Part o n b b′ = (i : ℕ) → o ≤ i → i < o + n → Alike b b′ i
 
 pub part-alike : (b b′ : Bytes) (o n : ℕ) → length b ≡ length b′ → Part o n b b′ → take n (drop o b) ≡ take n (drop o b′)
-part-alike b b′ o n e f = ext-getD 0 _ _ (rw (length-part, length-part, e)) at
+part-alike b b′ o n e f = ext-getD 0 _ _ (rw (length-part b o n, length-part b′ o n, e)) at
   where
     at : (i : ℕ) → i < length (take n (drop o b)) → Alike (take n (drop o b)) (take n (drop o b′)) i
     at i u =

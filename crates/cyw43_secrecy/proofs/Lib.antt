@@ -1,1 +1,3 @@
 pub mod Bufs
+pub mod Twin
+pub mod Related
