@@ -1,3 +1,4 @@
 pub mod Bufs
 pub mod Twin
 pub mod Related
+pub mod Packets
