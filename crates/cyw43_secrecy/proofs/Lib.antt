@@ -2,3 +2,4 @@ pub mod Bufs
 pub mod Twin
 pub mod Related
 pub mod Packets
+pub mod Device

@@ -107,3 +107,11 @@ twin-key s s′ τ e f r =
       front = λ i h. over-alike (τ .one) (τ .two) 28 s s′ i (τ .size) e (λ u. τ .front i h) (λ u v. absurd (omega arith));
       waiting = record { frame = frame-none (τ .st .pending .rx) _ _ f; reply = reply-none (τ .st .pending .«ioctl_resp») _ _ r };
     }
+
+pub over-on : (S : ℕ → Type 0) (at : ℕ) (s : Bytes) (τ : Twin) → On S τ → On S (twin-over at s τ)
+unfolding twin-over
+over-on S at s τ h i u = over-keeps (τ .one) (τ .two) at s i (τ .size) (h i u)
+
+pub over-made : (at : ℕ) (s : Bytes) (τ : Twin) (i : ℕ) → at ≤ i → i < at + length s → Alike (twin-over at s τ .one) (twin-over at s τ .two) i
+unfolding twin-over
+over-made at s τ i h l = over-makes (τ .one) (τ .two) at s i (τ .size) h l
