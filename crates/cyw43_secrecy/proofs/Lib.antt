@@ -3,3 +3,4 @@ pub mod Twin
 pub mod Related
 pub mod Packets
 pub mod Device
+pub mod Send
