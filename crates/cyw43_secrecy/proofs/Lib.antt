@@ -4,3 +4,4 @@ pub mod Related
 pub mod Packets
 pub mod Device
 pub mod Send
+pub mod Exchange
