@@ -5,3 +5,4 @@ pub mod Packets
 pub mod Device
 pub mod Send
 pub mod Exchange
+pub mod Calls
