@@ -6,3 +6,4 @@ pub mod Device
 pub mod Send
 pub mod Exchange
 pub mod Calls
+pub mod Answers
