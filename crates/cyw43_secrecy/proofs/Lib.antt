@@ -7,3 +7,5 @@ pub mod Send
 pub mod Exchange
 pub mod Calls
 pub mod Answers
+pub mod Runs
+pub mod Secrecy
