@@ -98,7 +98,7 @@ module _ (cmd : ℕ) (a p p′ z : Bytes) (e : length p ≡ length p′) where
   unfolding keyLaid laid twin-key
   keyLaid-rel τ =
       r-note (Note.keyLaid (frameWaits (τ .st .pending .rx)) (replyWaits (τ .st .pending .«ioctl_resp»)))
-      (λ u. r-ret (twin-key one two τ same-length (u .0) (u .1)) (λ i o. over-alike (τ .one) (τ .two) 28 one two i (τ .size) same-length (off i o) (λ h l. payload-alike a p p′ z (i - 28) e (λ v w. o .1 (omega arith) (omega arith)))))
+      (λ u. r-ret (twin-key one two τ same-length (u .1 .0) (u .1 .1)) (λ i o. over-alike (τ .one) (τ .two) 28 one two i (τ .size) same-length (off i o) (λ h l. payload-alike a p p′ z (i - 28) e (λ v w. o .1 (omega arith) (omega arith)))))
     where
       off : (i : ℕ) → Told i → (i < 28) ⊎ (28 + length one ≤ i) → Alike (τ .one) (τ .two) i
       off i o (inl h) = τ .front i h

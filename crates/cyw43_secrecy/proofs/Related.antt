@@ -9,7 +9,7 @@ use Rattle.cyw43_types.specs.declared.outcome.DriverError.{DriverError}
 use Rattle.cyw43_types.specs.declared.pending.PendingIoctlResp.{PendingIoctlResp}
 use Rattle.cyw43_definition.specs.Bus.{Bytes, Place, Op, Ans}
 use Rattle.cyw43_definition.specs.Prog.{World, Note, Fin, fine, failed, Turn, again, out, Loop, Back, Prog, ret, stop, ask, say, loop, note, M, bind, attempt, raise, turned, valued, operate, pause}
-use Rattle.cyw43_secrecy.specs.Secrecy.{blot, Holds}
+use Rattle.cyw43_secrecy.specs.Secrecy.{blot, Every, Came, Idle}
 use Rattle.cyw43_secrecy.proofs.Bufs.{Part}
 use Rattle.cyw43_secrecy.proofs.Twin.{Twin, left, right, On}
 
@@ -31,6 +31,10 @@ Fits (Op.writePacket p secret) x = Unit {0}
 Fits (Op.writeInterrupt v) x = Unit {0}
 Fits Op.frameControl x = Unit {0}
 Fits (Op.wait ns) x = Unit {0}
+
+-- both premises
+abbrev pub Holds : Note → Type 0
+Holds n = Came n × Idle n
 
 -- a value is as P says; of a refusal nothing is said
 abbrev pub FinP : {A : Type 0} → (A → Twin → Type 0) → Fin A → Twin → Type 0

@@ -16,12 +16,20 @@ use Rattle.cyw43_definition.specs.Prog.{World, Note, Fin, Loop, Back, Prog, ret
 use Rattle.cyw43_definition.specs.Poll.{Result, first, body}
 use Rattle.cyw43_definition.specs.Calls.{Call, call}
 use Rattle.cyw43_definition.specs.Run.{Rest, ended, refused, paused, full, Settled, at, logged, noted, words, fitting, turning, settle, Run, rolledBack, afterwards, answered, unanswered, resumed, run, runOf}
-use Rattle.cyw43_secrecy.specs.Secrecy.{blot, Holds, AllHold, SameCall}
+use Rattle.cyw43_secrecy.specs.Secrecy.{blot, Every, Came, Idle, SameCall}
 use Rattle.cyw43_secrecy.proofs.Twin.{Twin, left, right}
-use Rattle.cyw43_secrecy.proofs.Related.{Fits, SameOp, o-same, o-write, Related, r-ret, r-stop, r-ask, r-say, r-loop, r-note, r-bind, r-attempt, r-turned}
+use Rattle.cyw43_secrecy.proofs.Related.{Holds, Fits, SameOp, o-same, o-write, Related, r-ret, r-stop, r-ask, r-say, r-loop, r-note, r-bind, r-attempt, r-turned}
 use Rattle.cyw43_secrecy.proofs.Exchange.{Any, body-rel}
 use Rattle.cyw43_secrecy.proofs.Calls.{call-rel}
 use Rattle.cyw43_secrecy.proofs.Answers.{Whole, AllWhole, answers-whole, TakenFits, taken-fits, taken-same}
+
+-- both premises hold of a history
+abbrev pub AllHold : List Note → Type 0
+AllHold = Every Holds
+
+pub all-hold : (ns : List Note) → Every Came ns → Every Idle ns → AllHold ns
+all-hold [] c i = tt
+all-hold (n ∷ ns) c i = ((c .0, i .0), all-hold ns (c .1) (i .1))
 
 -- ---- operations
 
@@ -96,11 +104,11 @@ pub data SameRun : Run → Run → Type 0 where
 after-rel : (s s′ : Settled) {r r′ : Run} → SameOps (s .ops) (s′ .ops) → SameRun r r′ → SameRun (afterwards s r) (afterwards s′ r′)
 after-rel s s′ h (same-run τ l) = same-run τ (ops-append h l)
 
-hold-front : (a b : List Note) → AllHold (a ++ b) → AllHold a
+pub hold-front : (a b : List Note) → AllHold (a ++ b) → AllHold a
 hold-front [] b h = tt
 hold-front (n ∷ a) b h = (h .0, hold-front a b (h .1))
 
-hold-back : (a b : List Note) → AllHold (a ++ b) → AllHold b
+pub hold-back : (a b : List Note) → AllHold (a ++ b) → AllHold b
 hold-back [] b h = h
 hold-back (n ∷ a) b h = hold-back a b (h .1)
 

@@ -1,7 +1,7 @@
 -- Demand 3, the passphrase never leaves: what is given, what is compared, what is asked, and the statement.
 use mathlib.Core.Path.{_≡_}
 use mathlib.Core.Bool.{Bool, true, false, _&&_, _||_}
-use mathlib.Core.List.{List, [], _∷_, map}
+use mathlib.Core.List.{List, [], _∷_, _++_, map}
 use Prim.Native.Nat.{ℕ, _+_, _≤_}
 use lib.Dec.{ltb, leb}
 use lib.ListN.{length}
@@ -97,27 +97,39 @@ unfoldable pub observed : List Given → World → List Seen
 observed [] w = []
 observed (g ∷ gs) w = seen g w ∷ observed gs (next g w)
 
+-- the first run and the second are seen alike after each call
+abbrev pub SeenAlike : List Given → List Given → World → Type 0
+SeenAlike gs gs′ w = observed gs w ≡ observed gs′ w
+
 -- ---- what is asked, of the first run alone
 
--- 'no received packet with a valid complement declares more bytes than came', 'no frame and no stored reply waits when a passphrase
--- is laid'
-abbrev pub Holds : Note → Type 0
-Holds (Note.received declared came) = declared ≤ came
-Holds (Note.advanced n) = Unit {0}
-Holds Note.spent = Unit {0}
-Holds (Note.keyLaid frame reply) = (frame ≡ false) × (reply ≡ false)
+-- the notes of all calls, refused and rolled back ones too
+unfoldable pub history : List Given → World → List Note
+history [] w = []
+history (g ∷ gs) w = historyOf g w .notes ++ history gs (next g w)
 
-abbrev pub AllHold : List Note → Type 0
-AllHold [] = Unit {0}
-AllHold (n ∷ ns) = Holds n × AllHold ns
+abbrev pub Every : (Note → Type 0) → List Note → Type 0
+Every P [] = Unit {0}
+Every P (n ∷ ns) = P n × Every P ns
 
-abbrev pub Premises : List Given → World → Type 0
-Premises [] w = Unit {0}
-Premises (g ∷ gs) w = AllHold (historyOf g w .notes) × Premises gs (next g w)
+-- 'no received packet with a valid complement declares more bytes than came'; with a wrong one it declares none
+abbrev pub Came : Note → Type 0
+Came (Note.received declared came) = declared ≤ came
+Came (Note.advanced n) = Unit {0}
+Came Note.spent = Unit {0}
+Came (Note.keyLaid frame reply) = Unit {0}
+
+-- 'no frame and no stored reply waits when a passphrase is laid'
+abbrev pub Idle : Note → Type 0
+Idle (Note.received declared came) = Unit {0}
+Idle (Note.advanced n) = Unit {0}
+Idle Note.spent = Unit {0}
+Idle (Note.keyLaid frame reply) = (frame ≡ false) × (reply ≡ false)
 
 -- ---- the statement
 
 -- from a fresh state and any work buffer and scan list, two runs that are given the same but for passphrase bytes are seen alike
 abbrev pub Secrecy : Type 0
 Secrecy =
-    (gs gs′ : List Given) (b : Bytes) (l : ScanList) → Same gs gs′ → Premises gs (world fresh b l) → observed gs (world fresh b l) ≡ observed gs′ (world fresh b l)
+    (gs gs′ : List Given) (b : Bytes) (l : ScanList) → Same gs gs′ → Every Came (history gs (world fresh b l)) → Every Idle (history gs (world fresh b l))
+    → SeenAlike gs gs′ (world fresh b l)
