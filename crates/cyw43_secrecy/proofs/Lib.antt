@@ -9,3 +9,5 @@ pub mod Calls
 pub mod Answers
 pub mod Runs
 pub mod Secrecy
+pub mod Blot
+pub mod Witness
