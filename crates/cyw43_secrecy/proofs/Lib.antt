@@ -10,4 +10,5 @@ pub mod Answers
 pub mod Runs
 pub mod Secrecy
 pub mod Blot
+pub mod Place
 pub mod Witness

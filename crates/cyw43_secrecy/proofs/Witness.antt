@@ -13,10 +13,11 @@ use Rattle.cyw43_types.specs.State.{fresh}
 use Rattle.cyw43_types.specs.declared.scan.ScanList.{ScanList}
 use Rattle.cyw43_definition.specs.Bus.{Bytes, head}
 use Rattle.cyw43_definition.specs.Prog.{World, world, Note}
+use Rattle.cyw43_definition.specs.Scan.{sameBytes}
 use Rattle.cyw43_definition.specs.Calls.{Call}
 use Rattle.cyw43_definition.specs.Player.{emptyList}
 use Rattle.cyw43_definition.specs.Open.{opened}
-use Rattle.cyw43_secrecy.specs.Secrecy.{Given, SameCall, same, join, Same, none, more, Seen, seen, observed, SeenAlike, history, Every, Came, Idle}
+use Rattle.cyw43_secrecy.specs.Secrecy.{Given, SameCall, same, join, Same, none, more, Seen, seen, observed, SeenAlike, history, Every, Came, Idle, hidden, blotted, blot}
 use Rattle.cyw43_secrecy.proofs.Secrecy.{secrecy}
 
 -- ---- the premises as tests
@@ -302,6 +303,14 @@ alike-4 = alike 4 1 refl refl refl
 alike-5 : SeenAlike (whole 5 2 abc) (whole 5 2 xyz) start
 unfolding start abc whole exchanges history opened
 alike-5 = alike 5 2 refl refl refl
+
+-- and what it says of join's log, computed: the key packets are seen alike
+abbrev joinLog : List Given → List ℕ
+joinLog gs = getD (map (λ (s : Seen). s .log) (observed gs start)) 1 []
+
+logs-alike : sameBytes (joinLog (whole 2 1 abc)) (joinLog (whole 2 1 xyz)) ∷ sameBytes (joinLog (whole 5 2 abc)) (joinLog (whole 5 2 xyz)) ∷ [] ≡ true ∷ true ∷ []
+unfolding start abc xyz whole exchanges observed seen hidden blotted blot opened
+logs-alike = refl
 
 -- ---- each is needed
 
