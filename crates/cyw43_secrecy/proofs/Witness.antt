@@ -17,7 +17,7 @@ use Rattle.cyw43_definition.specs.Scan.{sameBytes}
 use Rattle.cyw43_definition.specs.Calls.{Call}
 use Rattle.cyw43_definition.specs.Player.{emptyList}
 use Rattle.cyw43_definition.specs.Open.{opened}
-use Rattle.cyw43_secrecy.specs.Secrecy.{Given, SameCall, same, join, Same, none, more, Seen, seen, observed, SeenAlike, history, Every, Came, Idle, hidden, blotted, blot}
+use Rattle.cyw43_secrecy.specs.Secrecy.{Given, SameCall, same, join, Same, none, more, Seen, seen, endOf, next, observed, SeenAlike, history, Every, Came, Idle, hidden, blotted, blot}
 use Rattle.cyw43_secrecy.proofs.Secrecy.{secrecy}
 
 -- ---- the premises as tests
@@ -200,6 +200,14 @@ replyWaiting p =
     ∷ given (Call.getIoctl 2 0) sent
     ∷ []
 
+-- the key's reply is late; then a variable of 5 bytes is sent, after a packet has brought credit: its padding is 3 old bytes
+padded : Bytes → List Given
+padded p =
+    marking
+    ∷ joining 2 p (exchanges 1 5 (sent ++ late))
+    ∷ given (Call.writeIovar 0 (97 ∷ []) (1 ∷ 2 ∷ 3 ∷ [])) (clock 0 ++ (coming (packetOf 16 2 12 0 9 (replicate 4 0)) ++ (sent ++ late)))
+    ∷ []
+
 abc : Bytes
 abc = 97 ∷ 98 ∷ 99 ∷ 100 ∷ 101 ∷ 102 ∷ 103 ∷ 104 ∷ []
 
@@ -304,13 +312,29 @@ alike-5 : SeenAlike (whole 5 2 abc) (whole 5 2 xyz) start
 unfolding start abc whole exchanges history opened
 alike-5 = alike 5 2 refl refl refl
 
--- and what it says of join's log, computed: the key packets are seen alike
-abbrev joinLog : List Given → List ℕ
-joinLog gs = getD (map (λ (s : Seen). s .log) (observed gs start)) 1 []
+-- ---- what is hidden, and that it is no more than has to be
 
-logs-alike : sameBytes (joinLog (whole 2 1 abc)) (joinLog (whole 2 1 xyz)) ∷ sameBytes (joinLog (whole 5 2 abc)) (joinLog (whole 5 2 xyz)) ∷ [] ≡ true ∷ true ∷ []
-unfolding start abc xyz whole exchanges observed seen hidden blotted blot opened
+-- the log that is compared, and the log itself, of the call i
+abbrev seenLog : ℕ → List Given → List ℕ
+seenLog i gs = getD (map (λ (s : Seen). s .log) (observed gs start)) i []
+
+abbrev ends : List Given → World → List (List ℕ)
+ends [] w = []
+ends (g ∷ gs) w = endOf g w .log ∷ ends gs (next g w)
+
+abbrev wholeLog : ℕ → List Given → List ℕ
+wholeLog i gs = getD (ends gs start) i []
+
+-- the key packets are seen alike, and so is a packet whose padding holds bytes of the passphrase
+logs-alike : sameBytes (seenLog 1 (whole 2 1 abc)) (seenLog 1 (whole 2 1 xyz)) ∷ sameBytes (seenLog 1 (whole 5 2 abc)) (seenLog 1 (whole 5 2 xyz)) ∷ sameBytes (seenLog 2 (padded abc)) (seenLog 2 (padded xyz)) ∷ []
+    ≡ true ∷ true ∷ true ∷ []
+unfolding start abc xyz whole padded exchanges observed seen hidden blotted blot opened
 logs-alike = refl
+
+-- the logs themselves differ in both
+logs-differ : sameBytes (wholeLog 1 (padded abc)) (wholeLog 1 (padded xyz)) ∷ sameBytes (wholeLog 2 (padded abc)) (wholeLog 2 (padded xyz)) ∷ [] ≡ false ∷ false ∷ []
+unfolding start abc xyz padded exchanges opened
+logs-differ = refl
 
 -- ---- each is needed
 
