@@ -11,4 +11,5 @@ pub mod Runs
 pub mod Secrecy
 pub mod Blot
 pub mod Place
+pub mod Places
 pub mod Witness
