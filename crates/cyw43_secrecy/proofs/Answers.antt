@@ -1,17 +1,16 @@
 -- A recorded packet is whole: it has the bytes that its head says, and four before them.
-use mathlib.Core.Path.{_≡_, refl, sym, ap, _∙_}
-use mathlib.Core.Bool.{Bool, true, false, _||_}
+use mathlib.Core.Path.{_≡_, refl}
+use mathlib.Core.Bool.{_||_}
 use mathlib.Core.List.{List, [], _∷_}
-use Prim.Native.Nat.{ℕ, zero, suc, _+_, _-_, _*_, _/_, _%_, _≤_, _<_}
+use Prim.Native.Nat.{ℕ, zero, suc, _+_, _-_, _*_, _%_, _≤_, _<_}
 use native.Mathlib.Omega.{arith}
 use borrow.Author.Tests.{ltb-true, leb-true, eqb-true, eqb-false}
 use lib.Dec.{ltb, leb, eqb}
 use lib.ListN.{length, take, drop, getD, length-take, length-drop}
 use lib.Seq.{getD-take}
-use Rattle.slices.specs.Pick.{pick}
 use Rattle.slices.specs.Le.{wordsFor, bytesOf}
 use Rattle.slices.proofs.Le.{length-bytesOf}
-use Rattle.cyw43_definition.specs.Bus.{Bytes, Op, Answer, answer, kindOf, lowOf, sizeOf, answerOf, answersFrom, answers, Ans, Taken, got, wrong, takenBy}
+use Rattle.cyw43_definition.specs.Bus.{Bytes, Op, Answer, answer, kindOf, lowOf, sizeOf, answerOf, answersFrom, Ans, Taken, got, wrong, takenBy}
 use Rattle.cyw43_secrecy.proofs.Packets.{by-pick}
 use Rattle.cyw43_secrecy.proofs.Related.{Fits, SameOp, o-same, o-write}
 

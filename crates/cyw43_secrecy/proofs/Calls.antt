@@ -1,40 +1,37 @@
 -- Join and the other calls, in two worlds that differ only in secret bytes.
 use mathlib.Core.Path.{_≡_, refl, sym, ap, _∙_}
 use mathlib.Core.Bool.{Bool, true, false, _&&_}
-use mathlib.Core.List.{List, [], _∷_, _++_}
+use mathlib.Core.List.{_∷_, _++_}
 use mathlib.Core.Logic.{_⊎_, inl, inr}
-use Prim.Native.Nat.{ℕ, zero, suc, _+_, _-_, _*_, _%_, _^_, _≤_, _<_, min}
+use Prim.Native.Nat.{ℕ, _+_, _-_, _%_, _≤_, _<_}
 use native.Mathlib.Omega.{arith}
-use lib.Dec.{ltb, leb, eqb}
-use lib.ListN.{length, take, drop, getD, replicate, length-append, List·getD-append}
+use lib.Dec.{ltb, leb}
+use lib.ListN.{length, getD, replicate, length-append, List·getD-append}
 use lib.Seq.{getD-append-add}
-use Rattle.slices.specs.Pick.{pick}
-use Rattle.slices.specs.Over.{over}
 use Rattle.slices.specs.Le.{le16, le32At}
 use Rattle.cyw43_types.specs.State.{withScan, withPending, withLink, setFrame, setFailure, setLinkState, setAuth, setTick}
 use Rattle.cyw43_types.specs.declared.link.ConnectFailure.{ConnectFailure}
 use Rattle.cyw43_types.specs.declared.link.StartedTick.{StartedTick}
 use Rattle.cyw43_types.specs.declared.link.WifiAuth.{WifiAuth}
 use Rattle.cyw43_types.specs.declared.link.WifiState.{WifiState}
-use Rattle.cyw43_types.specs.declared.outcome.DriverError.{DriverError}
 use Rattle.cyw43_types.specs.declared.outcome.Success.{Success}
 use Rattle.cyw43_types.specs.declared.pending.PendingRx.{PendingRx}
-use Rattle.cyw43_definition.specs.Bus.{Bytes, Place, nowhere, Op}
-use Rattle.cyw43_definition.specs.Prog.{World, Note, Fin, fine, failed, Prog, ret, stop, M, bind, _>>=_, _>>_, attempt, pause, operate}
+use Rattle.cyw43_definition.specs.Bus.{Bytes, Place, nowhere}
+use Rattle.cyw43_definition.specs.Prog.{Note, Fin, fine, failed, M, _>>_, pause}
 use Rattle.cyw43_definition.specs.Packet.{dataPart}
 use Rattle.cyw43_definition.specs.Scan.{cleared}
-use Rattle.cyw43_definition.specs.Request.{Request, ascii, keyed, setKey, saePassword, joinSsid, iovar, getWord, escan, currentAddress}
-use Rattle.cyw43_definition.specs.Send.{elapsed, clock, sendCommon}
+use Rattle.cyw43_definition.specs.Request.{Request, ascii, setKey, saePassword, joinSsid, getWord, escan, currentAddress}
+use Rattle.cyw43_definition.specs.Send.{elapsed}
 use Rattle.cyw43_definition.specs.Ioctl.{laid, doIoctl, exchange}
-use Rattle.cyw43_definition.specs.Poll.{Result, giving, poll}
+use Rattle.cyw43_definition.specs.Poll.{Result, giving}
 use Rattle.cyw43_definition.specs.Join.{isDevError, tooLong, authOf, frameWaits, replyWaits, ignoring, tried, keyLaid, pmkSet, saeSet, ssidSent, downOnError, lengthTested, joined, ifDown, join}
 use Rattle.cyw43_definition.specs.Calls.{Call, isInterface, isCommand, settled, initSta, scan, disconnect, send, taken, gpio, macIn, mac, get, setting, variableSet, call}
 use Rattle.cyw43_secrecy.specs.Secrecy.{SameCall}
-use Rattle.cyw43_secrecy.proofs.Bufs.{Alike, Part, split, over-alike, part-alike}
+use Rattle.cyw43_secrecy.proofs.Bufs.{Alike, split, over-alike, part-alike}
 use Rattle.cyw43_secrecy.proofs.Twin.{FrameAlike, Twin, left, right, On, twin-over, twin-moved, twin-key, over-made}
-use Rattle.cyw43_secrecy.proofs.Related.{o-same, FinP, Related, r-ret, r-stop, r-ask, r-say, r-note, r-bind, r-weaken, r-attempt, r-pick, r-operate, r-pause}
+use Rattle.cyw43_secrecy.proofs.Related.{o-same, Related, r-ret, r-stop, r-note, r-bind, r-weaken, r-attempt, r-pick, r-operate, r-pause}
 use Rattle.cyw43_secrecy.proofs.Send.{Open, Kept, sendCommon-rel}
-use Rattle.cyw43_secrecy.proofs.Exchange.{Any, Packet, doIoctl-rel, exchange-rel, poll-rel}
+use Rattle.cyw43_secrecy.proofs.Exchange.{Any, doIoctl-rel, exchange-rel, poll-rel}
 
 -- a part of a call goes alike
 abbrev Goes : {A : Type 0} → M A → M A → Type 1

@@ -1,14 +1,13 @@
 -- The device poll, in two worlds that differ only in secret bytes: it goes alike, and what it returns lies in bytes that are alike.
-use mathlib.Core.Path.{_≡_, refl, sym, ap, _∙_}
+use mathlib.Core.Path.{_≡_}
 use mathlib.Core.Bool.{Bool, true, false, _&&_}
-use mathlib.Core.List.{List, [], _∷_, _++_}
-use Prim.Native.Nat.{ℕ, zero, suc, _+_, _-_, _≤_, _<_, min}
+use mathlib.Core.List.{_++_}
+use Prim.Native.Nat.{ℕ, zero, suc, _+_, _<_}
 use native.Mathlib.Omega.{arith}
 use lib.Bits.{bitAnd}
 use lib.Dec.{eqb}
-use lib.ListN.{length, take, drop, replicate, length-append, length-drop}
+use lib.ListN.{take, drop, replicate, length-append, length-drop}
 use Rattle.slices.specs.Pick.{pick}
-use Rattle.slices.specs.Over.{over}
 use Rattle.slices.specs.Le.{le32, round4}
 use Rattle.slices.proofs.Over.{length-part}
 use Rattle.cyw43_types.specs.State.{withSdpcm, setMark}
@@ -17,13 +16,13 @@ use Rattle.cyw43_types.specs.declared.sdpcm.Received.{Received}
 use Rattle.cyw43_types.specs.declared.sdpcm.RxPacket.{RxPacket}
 use Rattle.cyw43_types.specs.declared.sdpcm.SdpcmPacket.{SdpcmPacket}
 use Rattle.cyw43_definition.specs.Bus.{Bytes, Op, Ans, fault, val}
-use Rattle.cyw43_definition.specs.Prog.{World, Note, Prog, ret, note, M, bind, _>>=_}
-use Rattle.cyw43_definition.specs.Packet.{sizeIn, complementIn, declared, processRx}
+use Rattle.cyw43_definition.specs.Prog.{Note, ret, note, M}
+use Rattle.cyw43_definition.specs.Packet.{sizeIn, complementIn, declared}
 use Rattle.cyw43_definition.specs.Device.{hadPacket, pending, unreadable, landed, faulted, packetIn, readIn, gotPacket, arrived, byStatus, statusRead, statusReads, acknowledge, interruptRead, pollBy, pollDevice}
 use Rattle.cyw43_secrecy.proofs.Bufs.{Alike, Part}
 use Rattle.cyw43_secrecy.proofs.Twin.{Twin, left, right, On, twin-over, twin-moved, over-on, over-made}
 use Rattle.cyw43_secrecy.proofs.Packets.{Below, ReadBelow, process-below, process-same}
-use Rattle.cyw43_secrecy.proofs.Related.{Fits, o-same, Related, r-ret, r-stop, r-ask, r-say, r-loop, r-note, r-bind, r-pick, r-valued, r-operate}
+use Rattle.cyw43_secrecy.proofs.Related.{Fits, o-same, Related, r-ret, r-stop, r-ask, r-say, r-note, r-bind, r-pick, r-valued, r-operate}
 
 -- what a packet holds lies in bytes that are alike
 abbrev pub Lies : SdpcmPacket → Twin → Type 0

@@ -1,14 +1,12 @@
 -- A request and its reply, poll, and the turns of the loops, in two worlds that differ only in secret bytes.
-use mathlib.Core.Path.{_≡_, refl, sym, ap, _∙_}
+use mathlib.Core.Path.{_≡_, refl}
 use mathlib.Core.Bool.{Bool, true, false}
-use mathlib.Core.List.{List, [], _∷_, _++_}
 use mathlib.Core.Logic.{_⊎_, inl, inr}
-use Prim.Native.Nat.{ℕ, _+_, _-_, _%_, _≤_, _<_, min}
+use Prim.Native.Nat.{ℕ, _+_, _%_, _≤_, _<_, min}
 use native.Mathlib.Omega.{arith}
 use lib.Dec.{ltb, leb}
 use lib.ListN.{length, take, drop}
 use Rattle.slices.specs.Pick.{pick}
-use Rattle.slices.specs.Over.{over}
 use Rattle.cyw43_types.specs.State.{withSdpcm, withPending, withLink, setId, setReply, setFrame, setFailure}
 use Rattle.cyw43_types.specs.declared.link.ConnectFailure.{ConnectFailure}
 use Rattle.cyw43_types.specs.declared.link.StartedTick.{StartedTick}
@@ -18,15 +16,15 @@ use Rattle.cyw43_types.specs.declared.pending.PendingResp.{PendingResp}
 use Rattle.cyw43_types.specs.declared.pending.PendingRx.{PendingRx}
 use Rattle.cyw43_types.specs.declared.sdpcm.SdpcmPacket.{SdpcmPacket}
 use Rattle.cyw43_definition.specs.Bus.{Bytes, Place, Op, Ans}
-use Rattle.cyw43_definition.specs.Prog.{World, withState, Fin, Turn, again, out, Loop, Prog, ret, say, loop, M, bind, _>>=_, _>>_, raise}
-use Rattle.cyw43_definition.specs.Event.{released, handled}
+use Rattle.cyw43_definition.specs.Prog.{withState, again, Loop, ret, say, raise}
+use Rattle.cyw43_definition.specs.Event.{released}
 use Rattle.cyw43_definition.specs.Request.{Request, ioctlHeader}
-use Rattle.cyw43_definition.specs.Send.{elapsed, clock}
-use Rattle.cyw43_definition.specs.Ioctl.{laid, nextId, numbered, isZero, finished, replyTurn, inTime, reply, doIoctl, exchange}
-use Rattle.cyw43_definition.specs.Poll.{Result, pollTurn, timedOut, disconnectTimeout, failureReport, polled, poll, body}
+use Rattle.cyw43_definition.specs.Send.{elapsed}
+use Rattle.cyw43_definition.specs.Ioctl.{laid, numbered, isZero, finished, replyTurn, inTime, reply, doIoctl, exchange}
+use Rattle.cyw43_definition.specs.Poll.{pollTurn, timedOut, disconnectTimeout, failureReport, polled, poll, body}
 use Rattle.cyw43_secrecy.proofs.Bufs.{Alike, Part, split, part-alike}
 use Rattle.cyw43_secrecy.proofs.Twin.{ReplyAlike, Twin, left, right, On, twin-over, twin-moved, over-on, over-made}
-use Rattle.cyw43_secrecy.proofs.Related.{o-same, BackP, TurnP, Related, r-ret, r-stop, r-ask, r-say, r-loop, r-note, r-bind, r-weaken, r-pick, r-raise, r-valued, r-operate}
+use Rattle.cyw43_secrecy.proofs.Related.{o-same, Related, r-ret, r-stop, r-say, r-loop, r-bind, r-pick, r-raise, r-valued, r-operate}
 use Rattle.cyw43_secrecy.proofs.Device.{Lies, pollBy-rel, pollDevice-rel}
 use Rattle.cyw43_secrecy.proofs.Send.{Open, Kept, Turned, r-clock, stored, handled-rel, stallTurn-rel, sendCommon-rel}
 

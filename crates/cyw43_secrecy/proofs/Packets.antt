@@ -1,20 +1,19 @@
 -- A packet is read from its first bytes and those that it declares, and what it holds lies within its size.
-use mathlib.Core.Path.{_≡_, refl, sym, ap, _∙_}
+use mathlib.Core.Path.{_≡_, refl, sym}
 use mathlib.Core.Bool.{Bool, true, false, _&&_, true≢false}
-use mathlib.Core.List.{List, [], _∷_}
-use Prim.Native.Nat.{ℕ, _+_, _-_, _*_, _/_, _%_, _≤_, _<_}
+use Prim.Native.Nat.{ℕ, _+_, _*_, _/_, _≤_, _<_}
 use native.Mathlib.Omega.{arith}
-use borrow.Author.Tests.{ltb-false, leb-false}
+use borrow.Author.Tests.{ltb-false}
 use lib.Dec.{ltb, leb, eqb}
-use lib.ListN.{length, take, drop, getD}
+use lib.ListN.{length, take, getD}
 use Rattle.slices.specs.Pick.{pick}
-use Rattle.slices.specs.Le.{le32At, signed32}
+use Rattle.slices.specs.Le.{le32At}
 use Rattle.cyw43_types.specs.declared.sdpcm.Sdpcm.{Sdpcm}
 use Rattle.cyw43_types.specs.declared.sdpcm.SdpcmPacket.{SdpcmPacket}
 use Rattle.cyw43_types.specs.declared.sdpcm.Received.{Received}
 use Rattle.cyw43_types.specs.declared.sdpcm.RxPacket.{RxPacket}
 use Rattle.cyw43_definition.specs.Bus.{Bytes}
-use Rattle.cyw43_definition.specs.Packet.{sizeIn, complementIn, rightComplement, isPacket, declared, accepted, controlOf, interfaceOf, dataOf, eventAt, payloadOf, channelIn, headerLengthIn, processRx}
+use Rattle.cyw43_definition.specs.Packet.{sizeIn, rightComplement, isPacket, declared, accepted, controlOf, dataOf, eventAt, payloadOf, channelIn, headerLengthIn, processRx}
 use Rattle.cyw43_secrecy.proofs.Bufs.{Alike, take-alike}
 
 -- by cases of a test, the test's value kept

@@ -21,17 +21,17 @@ use Rattle.cyw43_types.specs.declared.pending.PendingRx.{PendingRx}
 use Rattle.cyw43_types.specs.declared.sdpcm.Received.{Received}
 use Rattle.cyw43_types.specs.declared.sdpcm.SdpcmPacket.{SdpcmPacket}
 use Rattle.cyw43_types.specs.declared.state.State.{State}
-use Rattle.cyw43_definition.specs.Bus.{Bytes, Place, nowhere, Op, wordsOf, Answer, answers, Ans, Taken, got, wrong, takenBy}
-use Rattle.cyw43_definition.specs.Prog.{World, Note, Fin, fine, failed, Turn, again, out, Loop, Back, Prog, ret, stop, ask, say, loop, note, M, bind, _>>=_, _>>_, attempt, raise, turned, valued, operate, pause}
+use Rattle.cyw43_definition.specs.Bus.{Bytes, Place, nowhere, Op, Answer, answers, Ans, Taken, got, wrong, takenBy}
+use Rattle.cyw43_definition.specs.Prog.{World, Note, Fin, fine, failed, Turn, again, out, Loop, Back, Prog, ret, stop, ask, say, loop, note, M, bind, _>>_, attempt, raise, turned, valued, operate, pause}
 use Rattle.cyw43_definition.specs.Packet.{sizeIn, complementIn}
 use Rattle.cyw43_definition.specs.Request.{Request, country, eventMessages, escan, currentAddress, wlcUp, joinSsid, setKey, saePassword}
 use Rattle.cyw43_definition.specs.Device.{hadPacket, pending, unreadable, packetIn, readIn, gotPacket, arrived, byStatus, statusRead, statusReads, acknowledge, interruptRead, pollFirst, pollBy, pollDevice}
-use Rattle.cyw43_definition.specs.Send.{elapsed, clock, free, stillStalled, stallTest, stallTurn, untilFree, untilReady, written, emitted, sendCommon}
+use Rattle.cyw43_definition.specs.Send.{elapsed, free, stillStalled, stallTest, stallTurn, untilFree, untilReady, written, emitted, sendCommon}
 use Rattle.cyw43_definition.specs.Ioctl.{isZero, finished, replyTurn, inTime, reply, doIoctl, exchange}
 use Rattle.cyw43_definition.specs.Poll.{Result, pollTurn, disconnectTimeout, failureReport, polled, poll, first, body}
 use Rattle.cyw43_definition.specs.Join.{isDevError, tooLong, ignoring, tried, keyLaid, pmkSet, saeSet, ssidSent, downOnError, lengthTested, joined, ifDown, join}
 use Rattle.cyw43_definition.specs.Calls.{Call, isInterface, isCommand, settled, initSta, scan, disconnect, send, taken, gpio, mac, get, setting, variableSet, call}
-use Rattle.cyw43_definition.specs.Run.{Rest, ended, refused, paused, full, Settled, at, logged, words, fitting, turning, settle, Run, rolledBack, answered, unanswered, resumed, run, runOf}
+use Rattle.cyw43_definition.specs.Run.{Rest, ended, refused, paused, full, Settled, at, logged, words, settle, Run, rolledBack, answered, unanswered, resumed, run, runOf}
 
 -- ---- a written packet's place is as Q says
 

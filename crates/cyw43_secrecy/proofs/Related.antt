@@ -1,15 +1,13 @@
 -- Two trees that differ only in secret bytes; what binding and handling do to that. General: says nothing of a call.
-use mathlib.Core.Path.{_≡_, refl, sym, ap, _∙_}
+use mathlib.Core.Path.{_≡_, refl}
 use mathlib.Core.Bool.{Bool, true, false}
-use mathlib.Core.List.{List, [], _∷_}
-use Prim.Native.Nat.{ℕ, _+_, _≤_, _<_}
+use Prim.Native.Nat.{ℕ, _+_, _≤_}
 use lib.ListN.{length}
 use Rattle.slices.specs.Pick.{pick}
 use Rattle.cyw43_types.specs.declared.outcome.DriverError.{DriverError}
-use Rattle.cyw43_types.specs.declared.pending.PendingIoctlResp.{PendingIoctlResp}
 use Rattle.cyw43_definition.specs.Bus.{Bytes, Place, Op, Ans}
-use Rattle.cyw43_definition.specs.Prog.{World, Note, Fin, fine, failed, Turn, again, out, Loop, Back, Prog, ret, stop, ask, say, loop, note, M, bind, attempt, raise, turned, valued, operate, pause}
-use Rattle.cyw43_secrecy.specs.Secrecy.{blot, Every, Came, Idle}
+use Rattle.cyw43_definition.specs.Prog.{World, Note, Fin, fine, failed, Turn, again, out, Loop, Back, Prog, ret, stop, ask, say, loop, note, bind, attempt, raise, turned, valued, operate, pause}
+use Rattle.cyw43_secrecy.specs.Secrecy.{blot, Came, Idle}
 use Rattle.cyw43_secrecy.proofs.Bufs.{Part}
 use Rattle.cyw43_secrecy.proofs.Twin.{Twin, left, right, On}
 

@@ -1,8 +1,8 @@
 -- Running trees that differ only in secret bytes: they end alike, and their operations differ in hidden bytes alone.
-use mathlib.Core.Path.{_≡_, refl, sym, ap, _∙_}
+use mathlib.Core.Path.{_≡_, refl}
 use mathlib.Core.Bool.{Bool, true, false}
 use mathlib.Core.List.{List, [], _∷_, _++_, map}
-use Prim.Native.Nat.{ℕ, suc, _+_, _-_, _≤_}
+use Prim.Native.Nat.{ℕ, _-_}
 use native.Mathlib.Omega.{arith}
 use lib.Dec.{leb, eqb}
 use lib.ListN.{length, length-append}
@@ -12,10 +12,10 @@ use Rattle.cyw43_types.specs.declared.outcome.DriverError.{DriverError}
 use Rattle.cyw43_types.specs.declared.outcome.Outcome.{Outcome}
 use Rattle.cyw43_types.specs.declared.outcome.Refusal.{Refusal}
 use Rattle.cyw43_definition.specs.Bus.{Bytes, Op, wordsOf, logOf, Answer, answers, Ans, Taken, got, wrong, takenBy}
-use Rattle.cyw43_definition.specs.Prog.{World, Note, Fin, Loop, Back, Prog, ret, stop, ask, say, loop, note, bind, attempt, turned}
-use Rattle.cyw43_definition.specs.Poll.{Result, first, body}
+use Rattle.cyw43_definition.specs.Prog.{Note, Prog}
+use Rattle.cyw43_definition.specs.Poll.{Result, first}
 use Rattle.cyw43_definition.specs.Calls.{Call, call}
-use Rattle.cyw43_definition.specs.Run.{Rest, ended, refused, paused, full, Settled, at, logged, noted, words, fitting, turning, settle, Run, rolledBack, afterwards, answered, unanswered, resumed, run, runOf}
+use Rattle.cyw43_definition.specs.Run.{Rest, ended, refused, paused, full, Settled, at, logged, words, fitting, turning, settle, Run, rolledBack, afterwards, answered, unanswered, resumed, run, runOf}
 use Rattle.cyw43_secrecy.specs.Secrecy.{blot, Every, Came, Idle, SameCall}
 use Rattle.cyw43_secrecy.proofs.Twin.{Twin, left, right}
 use Rattle.cyw43_secrecy.proofs.Related.{Holds, Fits, SameOp, o-same, o-write, Related, r-ret, r-stop, r-ask, r-say, r-loop, r-note, r-bind, r-attempt, r-turned}

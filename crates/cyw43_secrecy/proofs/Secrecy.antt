@@ -1,16 +1,14 @@
 -- Demand 3: the passphrase never leaves.
-use mathlib.Core.Path.{_≡_, refl, sym, ap, _∙_}
-use mathlib.Core.List.{List, [], _∷_, map}
+use mathlib.Core.Path.{_≡_, refl}
+use mathlib.Core.List.{List, _∷_, map}
 use Prim.Native.Nat.{ℕ}
 use lib.ListN.{length}
 use Rattle.slices.specs.Over.{over}
 use Rattle.cyw43_types.specs.State.{fresh}
-use Rattle.cyw43_types.specs.declared.scan.ScanList.{ScanList}
 use Rattle.cyw43_definition.specs.Bus.{Bytes, logOf}
-use Rattle.cyw43_definition.specs.Prog.{World, world, Note}
-use Rattle.cyw43_definition.specs.Calls.{Call}
+use Rattle.cyw43_definition.specs.Prog.{world, Note}
 use Rattle.cyw43_definition.specs.Run.{Run, runOf, called, shown}
-use Rattle.cyw43_secrecy.specs.Secrecy.{Given, SameCall, Same, none, more, blot, Seen, seen, observed, historyOf, history, Secrecy}
+use Rattle.cyw43_secrecy.specs.Secrecy.{Given, Same, none, more, blot, Seen, seen, observed, history, Secrecy}
 use Rattle.cyw43_secrecy.proofs.Twin.{Twin, left, right}
 use Rattle.cyw43_secrecy.proofs.Runs.{AllHold, all-hold, hold-front, hold-back, ops-length, ops-blot, SameRun, same-run, runOf-rel}
 

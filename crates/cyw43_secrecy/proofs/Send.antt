@@ -1,15 +1,15 @@
 -- Sending, in two worlds that differ only in secret bytes: the packets differ in hidden bytes alone.
 use mathlib.Core.Path.{_≡_, refl, sym, ap, _∙_}
 use mathlib.Core.Bool.{Bool, true, false, _&&_, _||_, true≢false}
-use mathlib.Core.List.{List, [], _∷_, _++_}
-use Prim.Native.Nat.{ℕ, zero, suc, _+_, _-_, _*_, _/_, _%_, _≤_, _<_, min}
+use mathlib.Core.List.{[], _∷_}
+use Prim.Native.Nat.{ℕ, zero, suc, _+_, _%_, _≤_, _<_}
 use native.Mathlib.Nat.{zero-add}
 use native.Mathlib.Omega.{arith}
 use borrow.Author.Tests.{leb-false, le-leb, lt-ltb}
 use lib.Bits.{bitAnd}
 use lib.Dec.{ltb, leb, eqb}
 use lib.IntN.{ℤ}
-use lib.ListN.{length, take, drop, getD, length-take}
+use lib.ListN.{length, take, drop, length-take}
 use lib.Seq.{getD-take}
 use Rattle.slices.specs.Pick.{pick}
 use Rattle.slices.specs.Over.{over}
@@ -18,15 +18,15 @@ use Rattle.cyw43_types.specs.State.{withSdpcm, withPending, withScan, withLink,
 use Rattle.cyw43_types.specs.declared.pending.PendingResp.{PendingResp}
 use Rattle.cyw43_types.specs.declared.sdpcm.AsyncEvent.{AsyncEvent}
 use Rattle.cyw43_types.specs.declared.sdpcm.SdpcmPacket.{SdpcmPacket}
-use Rattle.cyw43_definition.specs.Bus.{Bytes, Place, Op, Ans}
-use Rattle.cyw43_definition.specs.Prog.{World, Note, Fin, Turn, again, out, Loop, Prog, M, bind, _>>=_, _>>_, raise}
+use Rattle.cyw43_definition.specs.Bus.{Bytes, Place, Op}
+use Rattle.cyw43_definition.specs.Prog.{World, Note, Turn, Loop, Prog}
 use Rattle.cyw43_definition.specs.Packet.{sizeIn, header}
 use Rattle.cyw43_definition.specs.Event.{eventBytes, eventOf, scanAfter, linkAfter, listAfter, after, handled}
-use Rattle.cyw43_definition.specs.Send.{elapsed, clock, free, responseOf, stillStalled, stallTest, stallTurn, stalled, untilFree, untilReady, written, emitted, headed, sendCommon}
-use Rattle.cyw43_secrecy.specs.Secrecy.{hidden, blotted, blot}
+use Rattle.cyw43_definition.specs.Send.{elapsed, clock, free, responseOf, stillStalled, stallTest, stallTurn, untilFree, untilReady, written, emitted, sendCommon}
+use Rattle.cyw43_secrecy.specs.Secrecy.{hidden, blot}
 use Rattle.cyw43_secrecy.proofs.Bufs.{Alike, Part, part-alike, blotted-same}
-use Rattle.cyw43_secrecy.proofs.Twin.{Twin, left, right, On, twin-over, twin-moved, over-on, over-made}
-use Rattle.cyw43_secrecy.proofs.Related.{SameOp, o-same, o-write, BackP, TurnP, Related, r-ret, r-stop, r-ask, r-say, r-loop, r-note, r-bind, r-weaken, r-pick, r-raise, r-operate}
+use Rattle.cyw43_secrecy.proofs.Twin.{Twin, left, right, On, twin-over, twin-moved, over-on}
+use Rattle.cyw43_secrecy.proofs.Related.{SameOp, o-same, o-write, BackP, TurnP, Related, r-ret, r-stop, r-say, r-loop, r-note, r-bind, r-weaken, r-pick, r-raise, r-operate}
 use Rattle.cyw43_secrecy.proofs.Device.{Lies}
 
 -- ---- events

@@ -1,14 +1,11 @@
 -- Two worlds that differ only in secret bytes of the work buffer: one state, one scan list, two buffers.
-use mathlib.Core.Path.{_≡_, refl, sym, ap, _∙_}
-use mathlib.Core.Bool.{Bool, true, false, true≢false}
-use mathlib.Core.List.{List, [], _∷_, _++_}
-use mathlib.Core.Logic.{_⊎_, inl, inr}
-use Prim.Native.Nat.{ℕ, _+_, _-_, _≤_, _<_}
+use mathlib.Core.Path.{_≡_}
+use mathlib.Core.Bool.{false, true≢false}
+use Prim.Native.Nat.{ℕ, _+_, _≤_, _<_}
 use native.Mathlib.Omega.{arith}
 use lib.ListN.{length}
 use Rattle.slices.specs.Over.{over}
 use Rattle.cyw43_types.specs.declared.pending.Pending.{Pending}
-use Rattle.cyw43_types.specs.declared.pending.PendingIoctlResp.{PendingIoctlResp}
 use Rattle.cyw43_types.specs.declared.pending.PendingResp.{PendingResp}
 use Rattle.cyw43_types.specs.declared.pending.PendingRx.{PendingRx}
 use Rattle.cyw43_types.specs.declared.scan.ScanList.{ScanList}

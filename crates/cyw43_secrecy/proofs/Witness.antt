@@ -1,12 +1,13 @@
 -- The premises can be met, and each is needed. The checker computes every session from the definition.
 use mathlib.Core.Path.{_≡_, refl, ap, sym}
-use mathlib.Core.Bool.{Bool, true, false, _&&_, not, true≢false}
+use mathlib.Core.Bool.{Bool, true, false, _&&_, _||_, not, true≢false}
 use mathlib.Core.List.{List, [], _∷_, _++_, map}
 use Prim.Native.Nat.{ℕ, zero, suc, _+_, _-_, _*_}
 use native.Mathlib.Omega.{arith}
 use borrow.Author.Tests.{leb-true, not-true}
-use lib.Dec.{leb}
+use lib.Dec.{leb, eqb}
 use lib.ListN.{length, getD, replicate}
+use Rattle.slices.specs.Pick.{pick}
 use Rattle.slices.specs.Le.{le16, le32, packed}
 use Rattle.cyw43_types.specs.Outcome.{refusalOf, valueOf}
 use Rattle.cyw43_types.specs.State.{fresh}
@@ -17,7 +18,7 @@ use Rattle.cyw43_definition.specs.Scan.{sameBytes}
 use Rattle.cyw43_definition.specs.Calls.{Call}
 use Rattle.cyw43_definition.specs.Player.{emptyList}
 use Rattle.cyw43_definition.specs.Open.{opened}
-use Rattle.cyw43_secrecy.specs.Secrecy.{Given, SameCall, same, join, Same, none, more, Seen, seen, endOf, next, observed, SeenAlike, history, Every, Came, Idle, hidden, blotted, blot}
+use Rattle.cyw43_secrecy.specs.Secrecy.{Given, same, join, Same, none, more, Seen, seen, endOf, historyOf, next, observed, SeenAlike, history, Every, Came, Idle, hidden, blotted, blot}
 use Rattle.cyw43_secrecy.proofs.Secrecy.{secrecy}
 
 -- ---- the premises as tests
@@ -116,6 +117,9 @@ status v = head 2 0 ∷ v ∷ []
 abbrev clock : ℕ → List ℕ
 clock t = head 4 0 ∷ t ∷ 0 ∷ []
 
+abbrev tick : ℕ → List ℕ
+tick t = head 5 0 ∷ t ∷ 0 ∷ []
+
 abbrev done : List ℕ
 done = head 6 0 ∷ []
 
@@ -207,6 +211,22 @@ padded p =
     ∷ joining 2 p (exchanges 1 5 (sent ++ late))
     ∷ given (Call.writeIovar 0 (97 ∷ []) (1 ∷ 2 ∷ 3 ∷ [])) (clock 0 ++ (coming (packetOf 16 2 12 0 9 (replicate 4 0)) ++ (sent ++ late)))
     ∷ []
+
+-- the key's reply is late, and the network is left; then a poll's recording ends after an event that says it has 60 bytes, where 12 came
+rolling : Bytes → List Given
+rolling p =
+    marking
+    ∷ joining 2 p (exchanges 1 5 (sent ++ late))
+    ∷ given Call.wifiDisconnect (clock 0 ++ (coming (packetOf 16 2 12 0 9 (replicate 4 0)) ++ (sent ++ (replied 7 0 ++ tick 5))))
+    ∷ polling (coming (packetOf 60 1 12 0 1 []) ++ status 0)
+    ∷ []
+
+-- passphrases whose byte 19 is an event's type: none, and a deauthentication
+quiet : Bytes
+quiet = replicate 19 0 ++ (99 ∷ [])
+
+deauth : Bytes
+deauth = replicate 19 0 ++ (5 ∷ [])
 
 abc : Bytes
 abc = 97 ∷ 98 ∷ 99 ∷ 100 ∷ 101 ∷ 102 ∷ 103 ∷ 104 ∷ []
@@ -390,3 +410,33 @@ reply-needed t =
     let h : List Note = history (replyWaiting abc) start in
     reply-leaks (t (replyWaiting abc) (replyWaiting xyz) (replicate 2048 0) emptyList (more same (more (join refl) (more same none)))
     (every-both Came Frameless (λ n. Came n × Frameless n) (λ n c r. (c, r)) h (every-is Came came? came-is h refl) (every-is Frameless frameless? frameless-is h refl)))
+
+-- ---- they are asked of calls that are rolled back too
+
+-- 8, 9, 12 and 13
+abbrev undone : ℕ → Bool
+undone n = eqb n 8 || (eqb n 9 || (eqb n 12 || eqb n 13))
+
+-- the history without the calls that were rolled back
+unfoldable pub keptHistory : List Given → World → List Note
+keptHistory [] w = []
+keptHistory (g ∷ gs) w = pick (undone (refusalOf (endOf g w .outcome))) [] (historyOf g w .notes) ++ keptHistory gs (next g w)
+
+rolling-told : refusalsOf (observed (rolling quiet) start) ∷ refusalsOf (observed (rolling deauth) start) ∷ [] ≡ (0 ∷ 2 ∷ 0 ∷ 8 ∷ []) ∷ (0 ∷ 2 ∷ 0 ∷ 0 ∷ []) ∷ []
+unfolding start rolling quiet deauth exchanges observed seen opened
+rolling-told = refl
+
+-- one run is refused 8, the other is not
+rolling-leaks : SeenAlike (rolling quiet) (rolling deauth) start → ⊥
+unfolding start rolling quiet deauth exchanges observed seen opened
+rolling-leaks e =
+    let h : _≡_ {A = ℕ} 8 0 = ap (λ (l : List Seen). getD (refusalsOf l) 3 0) e in
+    omega arith
+
+pub undone-needed : ((gs gs′ : List Given) (b : Bytes) (l : ScanList) → Same gs gs′ → Every Came (keptHistory gs (world fresh b l)) → Every Idle (keptHistory gs (world fresh b l)) → SeenAlike gs gs′ (world fresh b l)) → ⊥
+unfolding start rolling quiet deauth exchanges keptHistory opened
+undone-needed t =
+    let h : List Note = keptHistory (rolling quiet) start in
+    rolling-leaks (t (rolling quiet) (rolling deauth) (replicate 2048 0) emptyList (more same (more (join refl) (more same (more same none))))
+    (every-is Came came? came-is h refl)
+    (every-both Frameless Replyless Idle idle h (every-is Frameless frameless? frameless-is h refl) (every-is Replyless replyless? replyless-is h refl)))
