@@ -1,0 +1,15 @@
+pub mod Bufs
+pub mod Twin
+pub mod Related
+pub mod Packets
+pub mod Device
+pub mod Send
+pub mod Exchange
+pub mod Calls
+pub mod Answers
+pub mod Runs
+pub mod Secrecy
+pub mod Blot
+pub mod Place
+pub mod Places
+pub mod Witness
