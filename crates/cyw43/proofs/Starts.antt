@@ -23,17 +23,17 @@ use Rattle.cyw43_definition.specs.Run.{called, runOf}
 use Rattle.cyw43_definition.proofs.Compose.{unroll}
 use Rattle.cyw43_requests.specs.declared.request.Request.{Request}
 use Rattle.cyw43_requests.specs.declared.request.IovarName.{IovarName}
-use Rattle.cyw43_inner.specs.declared.points.Before.{Before}
-use Rattle.cyw43_inner.specs.declared.points.CallStep.{CallStep}
-use Rattle.cyw43_inner.specs.declared.points.Ending.{Ending}
-use Rattle.cyw43_inner.specs.declared.points.Job.{Job}
-use Rattle.cyw43_inner.specs.declared.points.Stage.{Stage}
-use Rattle.cyw43_inner.specs.Steps.{refuses}
-use Rattle.cyw43_inner.specs.Poll.{pollingStep}
-use Rattle.cyw43_inner.specs.Begin.{exchangesStep, scanStart, joinStart, frameStart}
-use Rattle.cyw43_inner.specs.Meaning.{Args, lensOf, laidBefore, laidRequest, laidAll, listAt, successOf, callTree, callShown}
-use Rattle.cyw43_inner.proofs.StageBridge.{Modest}
-use Rattle.cyw43_inner.proofs.Start as start
+use Rattle.cyw43_control.specs.declared.Before.{Before}
+use Rattle.cyw43_control.specs.declared.CallStep.{CallStep}
+use Rattle.cyw43_control.specs.declared.Ending.{Ending}
+use Rattle.cyw43_control.specs.declared.Job.{Job}
+use Rattle.cyw43_control.specs.declared.Stage.{Stage}
+use Rattle.cyw43_control.specs.Steps.{refuses}
+use Rattle.cyw43_control.specs.Poll.{pollingStep}
+use Rattle.cyw43_control.specs.Begin.{exchangesStep, scanStart, joinStart, frameStart}
+use Rattle.cyw43_control.specs.Meaning.{Args, lensOf, laidBefore, laidRequest, laidAll, listAt, successOf, callTree, callShown}
+use Rattle.cyw43_control.proofs.StageBridge.{Modest}
+use Rattle.cyw43_control.proofs.Start as start
 use Rattle.cyw43_events.specs.Handle.{listHeard}
 use Rattle.cyw43_send.specs.Meaning.{laidHeader}
 use Rattle.cyw43_effects.specs.Args.{argsOf}

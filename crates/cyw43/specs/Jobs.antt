@@ -9,13 +9,13 @@ use Rattle.cyw43_definition.specs.Bus.{Bytes}
 use Rattle.cyw43_definition.specs.Prog.{World, Prog, stop}
 use Rattle.cyw43_definition.specs.Poll.{Result}
 use Rattle.cyw43_requests.specs.declared.request.Request.{Request}
-use Rattle.cyw43_inner.specs.declared.points.Ending.{Ending}
-use Rattle.cyw43_inner.specs.declared.points.Job.{Job}
-use Rattle.cyw43_inner.specs.declared.points.Lens.{Lens}
-use Rattle.cyw43_inner.specs.declared.points.CallStep.{CallStep}
-use Rattle.cyw43_inner.specs.declared.points.Stage.{Stage}
-use Rattle.cyw43_inner.specs.Begin.{exchangesStep}
-use Rattle.cyw43_inner.specs.Meaning.{Args, lensOf}
+use Rattle.cyw43_control.specs.declared.Ending.{Ending}
+use Rattle.cyw43_control.specs.declared.Job.{Job}
+use Rattle.cyw43_control.specs.declared.Lens.{Lens}
+use Rattle.cyw43_control.specs.declared.CallStep.{CallStep}
+use Rattle.cyw43_control.specs.declared.Stage.{Stage}
+use Rattle.cyw43_control.specs.Begin.{exchangesStep}
+use Rattle.cyw43_control.specs.Meaning.{Args, lensOf}
 use Rattle.cyw43_effects.specs.Args.{argsOf}
 
 abbrev jobOf : ℕ → WifiAuth → Bool → Bool → ℕ → Request → Ending → Job

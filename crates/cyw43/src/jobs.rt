@@ -1,12 +1,12 @@
 // What each call hands to the run beside its byte arguments, and the run of a call without any.
 use cyw43_inner::begin::exchanges;
-use cyw43_inner::points::Before;
-use cyw43_inner::points::CallStep;
-use cyw43_inner::points::Ending;
-use cyw43_inner::points::Job;
-use cyw43_inner::points::Lens;
-use cyw43_inner::points::Stage;
-use cyw43_inner::steps::refuse;
+use cyw43_control::Before;
+use cyw43_control::CallStep;
+use cyw43_control::Ending;
+use cyw43_control::Job;
+use cyw43_control::Lens;
+use cyw43_control::Stage;
+use cyw43_steps::steps::refuse;
 use cyw43_requests::request::Request;
 use cyw43_run::call::call_from;
 use cyw43_run::standing::CallEnd;
@@ -24,7 +24,7 @@ ghost use Rattle.cyw43_definition.specs.Poll.{Result};
 ghost use Rattle.cyw43_definition.specs.Run.{called};
 ghost use Rattle.cyw43_definition.specs.Calls.{Call};
 ghost use Rattle.cyw43_definition.proofs.Compose.{unroll};
-ghost use Rattle.cyw43_inner.specs.Meaning.{callShown};
+ghost use Rattle.cyw43_control.specs.Meaning.{callShown};
 ghost use Rattle.cyw43_run.specs.Onward.{endOf, calledBy};
 ghost use Rattle.cyw43.specs.Jobs as to;
 

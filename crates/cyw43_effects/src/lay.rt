@@ -1,7 +1,7 @@
 // What a step lays in the work buffer. The promises hold for every job: only its byte arguments are laid.
-use cyw43_inner::points::Before;
-use cyw43_inner::points::Lay;
-use cyw43_inner::points::RequestPut;
+use cyw43_control::Before;
+use cyw43_control::Lay;
+use cyw43_control::RequestPut;
 use cyw43_requests::work_buffer::copy_reply;
 use cyw43_requests::work_buffer::lay_request;
 use cyw43_requests::work_buffer::put_ioctl_header;
@@ -9,8 +9,8 @@ use cyw43_sdpcm::header::put_data;
 use cyw43_sdpcm::header::put_header;
 use cyw43_send::HeaderPut;
 ghost use mathlib.Core.Path.{_≡_};
-ghost use Rattle.cyw43_inner.specs.declared.points.Job as job;
-ghost use Rattle.cyw43_inner.specs.Meaning as to;
+ghost use Rattle.cyw43_control.specs.declared.Job as job;
+ghost use Rattle.cyw43_control.specs.Meaning as to;
 ghost use Rattle.cyw43_send.specs.Meaning.{laidHeader};
 ghost use Rattle.cyw43_effects.specs.Args.{argsOf};
 

@@ -1,7 +1,2 @@
-// The calls' control: where a call waits for the bus, what it does with an answer, and what it lays into the work buffer.
+// The calls' control: how each call begins, and its step at any point where it waits for the bus.
 pub mod begin;
-pub mod exchange;
-pub mod points;
-pub mod poll;
-pub mod stages;
-pub mod steps;

@@ -29,13 +29,13 @@ use Rattle.cyw43_bus.specs.Op.{opOf, bare}
 use Rattle.cyw43_bus.specs.Taken.{takenOf}
 use Rattle.cyw43_bus.proofs.Answers.{restOf, head-at, size-pos, taken-any, taken-bare, taken-unrecorded, taken-wrong, taken-fault, taken-value}
 use Rattle.cyw43_device.specs.Meaning.{secretly, opIn, asking, told, landing, InRange}
-use Rattle.cyw43_inner.specs.declared.points.CallPoint.{CallPoint}
-use Rattle.cyw43_inner.specs.declared.points.CallNext.{CallNext}
-use Rattle.cyw43_inner.specs.declared.points.CallStep.{CallStep}
-use Rattle.cyw43_inner.specs.Steps.{callOp}
-use Rattle.cyw43_inner.specs.Meaning.{Args, Kc, laidAll, listAt, callTree, callShown}
-use Rattle.cyw43_inner.proofs.StageBridge.{Modest}
-use Rattle.cyw43_inner.proofs.Bridge.{call-is}
+use Rattle.cyw43_control.specs.declared.CallPoint.{CallPoint}
+use Rattle.cyw43_control.specs.declared.CallNext.{CallNext}
+use Rattle.cyw43_control.specs.declared.CallStep.{CallStep}
+use Rattle.cyw43_control.specs.Steps.{callOp}
+use Rattle.cyw43_control.specs.Meaning.{Args, Kc, laidAll, listAt, callTree, callShown}
+use Rattle.cyw43_control.proofs.StageBridge.{Modest}
+use Rattle.cyw43_control.proofs.Bridge.{call-is}
 use Rattle.cyw43_effects.specs.Answer.{answerIn, isWait}
 use Rattle.cyw43_run.specs.declared.standing.RunNext.{RunNext}
 use Rattle.cyw43_run.specs.declared.standing.Running.{Running}

@@ -19,12 +19,12 @@ use Rattle.cyw43_definition.specs.Poll.{Result}
 use Rattle.cyw43_definition.specs.Run as def
 use Rattle.cyw43_definition.specs.Run.{End, run, finished, rolledBack, answered, shown}
 use Rattle.cyw43_device.specs.Meaning.{opIn, asking, arrivalAt}
-use Rattle.cyw43_inner.specs.declared.points.CallPoint.{CallPoint}
-use Rattle.cyw43_inner.specs.declared.points.CallNext.{CallNext}
-use Rattle.cyw43_inner.specs.declared.points.CallStep.{CallStep}
-use Rattle.cyw43_inner.specs.Steps.{callOp}
-use Rattle.cyw43_inner.specs.Begin.{callAnswer}
-use Rattle.cyw43_inner.specs.Meaning.{Args, lensOf, Kc, secretAt, listAt, successOf}
+use Rattle.cyw43_control.specs.declared.CallPoint.{CallPoint}
+use Rattle.cyw43_control.specs.declared.CallNext.{CallNext}
+use Rattle.cyw43_control.specs.declared.CallStep.{CallStep}
+use Rattle.cyw43_control.specs.Steps.{callOp}
+use Rattle.cyw43_control.specs.Begin.{callAnswer}
+use Rattle.cyw43_control.specs.Meaning.{Args, lensOf, Kc, secretAt, listAt, successOf}
 use Rattle.cyw43_effects.specs.Answer.{isWait}
 use Rattle.cyw43_run.specs.declared.standing.Standing.{Standing}
 use Rattle.cyw43_run.specs.declared.standing.RunNext.{RunNext}

@@ -2,7 +2,7 @@
 use crate::standing::RunNext;
 use crate::standing::Running;
 use crate::turn::turn;
-use cyw43_inner::points::Job;
+use cyw43_control::Job;
 ghost use mathlib.Core.Path.{_≡_};
 ghost use mathlib.Core.Bool.{true, false};
 ghost use Prim.Native.Nat.{_+_, _-_, _<_, _≤_};

@@ -1,5 +1,5 @@
 // Where a run stands.
-use cyw43_inner::points::CallPoint;
+use cyw43_control::CallPoint;
 use cyw43_types::outcome::Outcome;
 use cyw43_types::outcome::Refusal;
 use cyw43_types::scan::ScanList;

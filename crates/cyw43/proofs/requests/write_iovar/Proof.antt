@@ -6,7 +6,7 @@ use Rattle.cyw43_definition.specs.Event.{eventOf}
 use Rattle.cyw43_definition.specs.Prog.{world}
 use Rattle.cyw43_definition.specs.Calls.{Call, call}
 use Rattle.cyw43_requests.specs.declared.request.Request.{Request}
-use Rattle.cyw43_inner.specs.declared.points.Ending.{Ending}
+use Rattle.cyw43_control.specs.declared.Ending.{Ending}
 use Rattle.cyw43.specs.Jobs as to
 use Rattle.cyw43.proofs.Starts as law
 use borrow.Author.Needs.{needs}

@@ -1,6 +1,6 @@
 use borrow.Author.Needs.{needs}
 use mathlib.Core.Path.{_∙_}
-use Rattle.cyw43_inner.specs.Meaning.{laidAll}
+use Rattle.cyw43_control.specs.Meaning.{laidAll}
 use Rattle.cyw43_effects.proofs.lay.lay.Statement.{statement}
 use Rattle.cyw43_effects.proofs.lay.lay.Tie as tie
 

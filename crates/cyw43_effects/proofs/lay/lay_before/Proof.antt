@@ -1,6 +1,6 @@
 use borrow.Author.Needs.{needs}
 use Rattle.cyw43_ioctl.specs.Meaning.{laidCopy}
-use Rattle.cyw43_inner.specs.Meaning.{laidBefore}
+use Rattle.cyw43_control.specs.Meaning.{laidBefore}
 use Rattle.cyw43_effects.proofs.lay.lay_before.Statement.{statement}
 use Rattle.cyw43_effects.proofs.lay.lay_before.Tie as tie
 

@@ -1,6 +1,6 @@
 use borrow.Author.Needs.{needs}
 use mathlib.Core.Path.{_∙_}
-use Rattle.cyw43_inner.specs.Meaning.{listAt}
+use Rattle.cyw43_control.specs.Meaning.{listAt}
 use Rattle.cyw43_effects.proofs.outcome.list_at.Statement.{statement}
 use Rattle.cyw43_effects.proofs.outcome.list_at.Tie as tie
 

@@ -1,5 +1,5 @@
 use borrow.Author.Needs.{needs}
-use Rattle.cyw43_inner.specs.Meaning.{successOf}
+use Rattle.cyw43_control.specs.Meaning.{successOf}
 use Rattle.cyw43_effects.proofs.outcome.success_of.Statement.{statement}
 use Rattle.cyw43_effects.proofs.outcome.success_of.Tie as tie
 

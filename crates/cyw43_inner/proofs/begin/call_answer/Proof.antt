@@ -1,6 +1,6 @@
 use borrow.Author.Needs.{needs}
 use mathlib.Core.Path.{_∙_}
-use Rattle.cyw43_inner.specs.Begin.{callAnswer}
+use Rattle.cyw43_control.specs.Begin.{callAnswer}
 use Rattle.cyw43_inner.proofs.begin.call_answer.Statement.{statement}
 use Rattle.cyw43_inner.proofs.begin.call_answer.Tie as tie
 

@@ -1,6 +1,6 @@
 use borrow.Author.Needs.{needs}
 use mathlib.Core.Path.{sym, ap, _∙_}
-use Rattle.cyw43_inner.specs.Begin.{joinBy}
+use Rattle.cyw43_control.specs.Begin.{joinBy}
 use Rattle.cyw43_inner.proofs.begin.join_start.Statement.{statement}
 use Rattle.cyw43_inner.proofs.begin.join_start.Tie as tie
 

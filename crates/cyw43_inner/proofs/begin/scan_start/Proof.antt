@@ -1,5 +1,5 @@
 use borrow.Author.Needs.{needs}
-use Rattle.cyw43_inner.specs.Begin.{scanStart}
+use Rattle.cyw43_control.specs.Begin.{scanStart}
 use Rattle.cyw43_inner.proofs.begin.scan_start.Statement.{statement}
 use Rattle.cyw43_inner.proofs.begin.scan_start.Tie as tie
 

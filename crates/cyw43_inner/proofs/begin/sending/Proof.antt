@@ -1,5 +1,5 @@
 use borrow.Author.Needs.{needs}
-use Rattle.cyw43_inner.specs.Begin.{sendingStep}
+use Rattle.cyw43_control.specs.Begin.{sendingStep}
 use Rattle.cyw43_inner.proofs.begin.sending.Statement.{statement}
 use Rattle.cyw43_inner.proofs.begin.sending.Tie as tie
 

@@ -1,6 +1,6 @@
 use borrow.Author.Needs.{needs}
 use mathlib.Core.Path.{_∙_}
-use Rattle.cyw43_inner.specs.Begin.{sendingNext}
+use Rattle.cyw43_control.specs.Begin.{sendingNext}
 use Rattle.cyw43_inner.proofs.begin.sending_next.Statement.{statement}
 use Rattle.cyw43_inner.proofs.begin.sending_next.Tie as tie
 

@@ -3,7 +3,7 @@ use Prim.Native.Nat.{_-_, _<_}
 use native.Mathlib.Omega.{arith}
 use lib.ListN.{length, drop}
 use Rattle.cyw43_definition.specs.Bus.{sizeOf}
-use Rattle.cyw43_inner.specs.Steps.{callOp}
+use Rattle.cyw43_control.specs.Steps.{callOp}
 use Rattle.cyw43_effects.specs.Answer.{answerIn}
 use Rattle.cyw43_run.proofs.TurnLaws as law
 use borrow.Author.Needs.{needs}

@@ -4,8 +4,8 @@ use Prim.Native.Nat.{_-_}
 use lib.ListN.{drop}
 use Rattle.cyw43_bus.specs.Op.{opOf}
 use Rattle.cyw43_bus.specs.Taken.{takenOf}
-use Rattle.cyw43_inner.specs.Steps.{callOp}
-use Rattle.cyw43_inner.specs.Meaning.{Kc, secretAt}
+use Rattle.cyw43_control.specs.Steps.{callOp}
+use Rattle.cyw43_control.specs.Meaning.{Kc, secretAt}
 use Rattle.cyw43_effects.specs.Args.{argsOf}
 use Rattle.cyw43_run.specs.Onward as to
 use Rattle.cyw43_run.proofs.TurnLaws as law

@@ -4,8 +4,8 @@ use Prim.Native.Nat.{_-_}
 use lib.ListN.{drop}
 use Rattle.cyw43_definition.specs.Bus.{val}
 use Rattle.cyw43_device.specs.Meaning.{told}
-use Rattle.cyw43_inner.specs.Steps.{callOp}
-use Rattle.cyw43_inner.specs.Meaning.{Kc, secretAt}
+use Rattle.cyw43_control.specs.Steps.{callOp}
+use Rattle.cyw43_control.specs.Meaning.{Kc, secretAt}
 use Rattle.cyw43_effects.specs.Answer.{isWait}
 use Rattle.cyw43_effects.specs.Args.{argsOf}
 use Rattle.cyw43_run.specs.Onward as to

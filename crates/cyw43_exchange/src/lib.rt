@@ -1,0 +1,4 @@
+// A call's exchanges, one after the other.
+pub mod after;
+pub mod answer;
+pub mod begin;
