@@ -2,7 +2,7 @@
 use cyw43_events::scan::cleared;
 use cyw43_events::scan::list_after;
 use cyw43_control::Ending;
-use cyw43_requests::work_buffer::mac_in;
+use cyw43_work_buffer::mac_in;
 use cyw43_types::outcome::Success;
 use cyw43_types::scan::ScanList;
 use cyw43_types::sdpcm::AsyncEvent;

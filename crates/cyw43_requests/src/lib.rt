@@ -1,5 +1,3 @@
-// The driver's requests: what each lays into the work buffer, and the numbers that go with it.
-pub mod payload;
+// The driver's requests by name, and the numbers that go with each.
 pub mod request;
 pub mod security;
-pub mod work_buffer;
