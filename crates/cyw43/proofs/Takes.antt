@@ -21,8 +21,8 @@ use Rattle.cyw43_definition.specs.Prog.{World, Prog, ret, stop}
 use Rattle.cyw43_definition.specs.Poll.{Result}
 use Rattle.cyw43_definition.specs.Calls.{Call, call, taken, frameless}
 use Rattle.cyw43_definition.specs.Run.{End, shown, run, finished, called, runOf}
-use Rattle.cyw43_run.specs.Onward.{endOf}
-use Rattle.cyw43_run.proofs.Going.{run-ret, run-stop}
+use Rattle.cyw43_turn.specs.Onward.{endOf}
+use Rattle.cyw43_turn.proofs.Going.{run-ret, run-stop}
 use Rattle.cyw43.specs.Take.{ended, driverError, framelessState, frameTaken}
 
 module _ (w : World) (rec log : List ℕ) (out : Bytes) where

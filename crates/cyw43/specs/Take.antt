@@ -17,8 +17,8 @@ use Rattle.cyw43_types.specs.declared.state.State.{State}
 use Rattle.cyw43_definition.specs.Bus.{Bytes}
 use Rattle.cyw43_definition.specs.Prog.{World}
 use Rattle.cyw43_definition.specs.Run.{End}
-use Rattle.cyw43_run.specs.declared.standing.CallEnd.{CallEnd}
-use Rattle.cyw43_run.specs.Onward.{endOf}
+use Rattle.cyw43_turn.specs.declared.standing.CallEnd.{CallEnd}
+use Rattle.cyw43_turn.specs.Onward.{endOf}
 
 abbrev pub ended : Outcome → State → ScanList → CallEnd
 ended o s l = record { outcome = o; st = s; list = l; len = 0 }

@@ -13,8 +13,8 @@ use cyw43_poll::polling;
 use cyw43_requests::security::auth_of;
 use cyw43_requests::security::too_long;
 use cyw43_run::call::call_from;
-use cyw43_run::standing::CallEnd;
-use cyw43_run::step::lens;
+use cyw43_turn::standing::CallEnd;
+use cyw43_turn::step::lens;
 use cyw43_types::scan::ScanList;
 use cyw43_types::state::State;
 ghost use mathlib.Core.Path.{_≡_};
@@ -24,7 +24,7 @@ ghost use lib.ListN.{length, take};
 ghost use Rattle.cyw43_definition.specs.Prog.{world};
 ghost use Rattle.cyw43_definition.specs.Calls.{Call};
 ghost use Rattle.cyw43_definition.specs.Run.{called};
-ghost use Rattle.cyw43_run.specs.Onward.{endOf};
+ghost use Rattle.cyw43_turn.specs.Onward.{endOf};
 
 pub fn wifi_init(
     country: u32,

@@ -4,7 +4,7 @@ use crate::jobs::invalid_arg;
 use cyw43_inner::begin::frame_start;
 use cyw43_requests::request::is_interface;
 use cyw43_run::call::call_from;
-use cyw43_run::standing::CallEnd;
+use cyw43_turn::standing::CallEnd;
 use cyw43_types::outcome::DriverError;
 use cyw43_types::outcome::Outcome;
 use cyw43_types::outcome::Refusal;
@@ -22,7 +22,7 @@ ghost use lib.ListN.{length};
 ghost use Rattle.cyw43_definition.specs.Prog.{world};
 ghost use Rattle.cyw43_definition.specs.Calls.{Call};
 ghost use Rattle.cyw43_definition.specs.Run.{called};
-ghost use Rattle.cyw43_run.specs.Onward.{endOf};
+ghost use Rattle.cyw43_turn.specs.Onward.{endOf};
 ghost use Rattle.cyw43.specs.Take as to;
 
 pub fn send_data(

@@ -9,7 +9,7 @@ use cyw43_control::Stage;
 use cyw43_steps::steps::refuse;
 use cyw43_requests::request::Request;
 use cyw43_run::call::call_from;
-use cyw43_run::standing::CallEnd;
+use cyw43_turn::standing::CallEnd;
 use cyw43_types::link::WifiAuth;
 use cyw43_types::outcome::DriverError;
 use cyw43_types::scan::ScanList;
@@ -25,7 +25,7 @@ ghost use Rattle.cyw43_definition.specs.Run.{called};
 ghost use Rattle.cyw43_definition.specs.Calls.{Call};
 ghost use Rattle.cyw43_definition.proofs.Compose.{unroll};
 ghost use Rattle.cyw43_control.specs.Meaning.{callShown};
-ghost use Rattle.cyw43_run.specs.Onward.{endOf, calledBy};
+ghost use Rattle.cyw43_turn.specs.Onward.{endOf, calledBy};
 ghost use Rattle.cyw43.specs.Jobs as to;
 
 pub fn no_job() -> Job

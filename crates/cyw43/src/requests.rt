@@ -10,8 +10,8 @@ use cyw43_requests::request::Request;
 use cyw43_requests::request::is_command;
 use cyw43_requests::request::is_interface;
 use cyw43_run::call::call_from;
-use cyw43_run::standing::CallEnd;
-use cyw43_run::step::lens;
+use cyw43_turn::standing::CallEnd;
+use cyw43_turn::step::lens;
 use cyw43_types::scan::ScanList;
 use cyw43_types::state::State;
 ghost use mathlib.Core.Path.{_≡_};
@@ -22,7 +22,7 @@ ghost use Rattle.slices.specs.Pick.{pick};
 ghost use Rattle.cyw43_definition.specs.Prog.{world};
 ghost use Rattle.cyw43_definition.specs.Calls.{Call};
 ghost use Rattle.cyw43_definition.specs.Run.{called};
-ghost use Rattle.cyw43_run.specs.Onward.{endOf};
+ghost use Rattle.cyw43_turn.specs.Onward.{endOf};
 
 fn pin_mask(pin: u32) -> u32
     requires { ⌜ pin < 3 ⌝ }

@@ -1,9 +1,9 @@
 // A call from its first step to its end, with roll-back.
 use crate::run::run_on;
-use crate::standing::CallEnd;
-use crate::standing::RunNext;
-use crate::standing::Running;
-use crate::step::take_step;
+use cyw43_turn::standing::CallEnd;
+use cyw43_turn::standing::RunNext;
+use cyw43_turn::standing::Running;
+use cyw43_turn::step::take_step;
 use cyw43_effects::arrival::no_event;
 use cyw43_control::CallStep;
 use cyw43_control::Job;
@@ -22,7 +22,7 @@ ghost use Rattle.cyw43_definition.specs.Poll.{Result};
 ghost use Rattle.cyw43_definition.proofs.Compose.{unroll};
 ghost use Rattle.cyw43_control.specs.Meaning.{Args, callShown};
 ghost use Rattle.cyw43_effects.specs.Args.{argsOf};
-ghost use Rattle.cyw43_run.specs.Onward as to;
+ghost use Rattle.cyw43_turn.specs.Onward as to;
 
 fn whole(
     s: CallStep,

@@ -1,6 +1,3 @@
-// A call run on a recording: its operations go to the log, their answers come from the recording.
+// A call run on a recording, operation by operation, to its end or back.
 pub mod call;
 pub mod run;
-pub mod standing;
-pub mod step;
-pub mod turn;

@@ -1,7 +1,7 @@
 // Operation by operation, to the call's end.
-use crate::standing::RunNext;
-use crate::standing::Running;
-use crate::turn::turn;
+use cyw43_turn::standing::RunNext;
+use cyw43_turn::standing::Running;
+use cyw43_turn::turn::turn;
 use cyw43_control::Job;
 ghost use mathlib.Core.Path.{_≡_};
 ghost use mathlib.Core.Bool.{true, false};
@@ -9,7 +9,7 @@ ghost use Prim.Native.Nat.{_+_, _-_, _<_, _≤_};
 ghost use lib.ListN.{length};
 ghost use Rattle.cyw43_definition.specs.Prog.{World};
 ghost use Rattle.cyw43_effects.specs.Args.{argsOf};
-ghost use Rattle.cyw43_run.specs.Onward as to;
+ghost use Rattle.cyw43_turn.specs.Onward as to;
 
 fn is_on(n: RunNext) -> bool
     ensures { λ r. ⌜ r ≡ to.isOn n ⌝ }

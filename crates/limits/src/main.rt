@@ -2,7 +2,7 @@
 use cyw43::fresh::fresh_list;
 use cyw43::fresh::fresh_state;
 use cyw43::requests::up;
-use cyw43_run::standing::CallEnd;
+use cyw43_turn::standing::CallEnd;
 use cyw43_types::outcome::refusal_of;
 use cyw43_types::sdpcm::Sdpcm;
 ghost use mathlib.Core.Path.{_≡_};

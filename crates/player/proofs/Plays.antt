@@ -15,8 +15,8 @@ use Rattle.cyw43_definition.specs.Prog.{World, world}
 use Rattle.cyw43_definition.specs.Calls.{Call}
 use Rattle.cyw43_definition.specs.Run.{End, called}
 use Rattle.cyw43_definition.specs.Player.{Arguments, callWith, badArguments, nameLength, joinOf, variableOf, argumentsOf, emptyLog, playedCall, lineOf, one, nextCall, playFrom}
-use Rattle.cyw43_run.specs.declared.standing.CallEnd.{CallEnd}
-use Rattle.cyw43_run.specs.Onward.{endOf}
+use Rattle.cyw43_turn.specs.declared.standing.CallEnd.{CallEnd}
+use Rattle.cyw43_turn.specs.Onward.{endOf}
 use Rattle.player.specs.Input.{outputLength, Plain, complete}
 use Rattle.player.specs.Play.{callEnd, worldAfter, Fronts}
 use Rattle.player.specs.Text.{textOf}

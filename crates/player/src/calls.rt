@@ -1,5 +1,5 @@
 // The fourteen calls with their arguments as bytes. Numbers are le words.
-use cyw43_run::standing::CallEnd;
+use cyw43_turn::standing::CallEnd;
 use cyw43_types::outcome::DriverError;
 use cyw43_types::outcome::Outcome;
 use cyw43_types::outcome::Refusal;
@@ -12,7 +12,7 @@ ghost use Prim.Native.Nat.{ℕ};
 ghost use lib.ListN.{replicate};
 ghost use Rattle.cyw43_definition.specs.Prog.{world};
 ghost use Rattle.cyw43_definition.specs.Player.{nameLength, joinOf, variableOf, argumentsOf, playedCall, badArguments};
-ghost use Rattle.cyw43_run.specs.Onward.{endOf};
+ghost use Rattle.cyw43_turn.specs.Onward.{endOf};
 ghost use Rattle.player.specs.Input.{outputLength, complete, Plain};
 
 // Bad arguments: nothing is changed.

@@ -1,5 +1,5 @@
 // What the player prints of a call, as bytes.
-use cyw43_run::standing::CallEnd;
+use cyw43_turn::standing::CallEnd;
 use cyw43_types::link::WifiState;
 use cyw43_types::outcome::refusal_of;
 use cyw43_types::outcome::value_of;
@@ -10,7 +10,7 @@ ghost use lib.ListN.{length, take};
 ghost use Rattle.slices.specs.Over.{over};
 ghost use Rattle.cyw43_definition.specs.Player.{stateNumber, lineOf};
 ghost use Rattle.cyw43_definition.specs.Player.{numbers as Player·numbers};
-ghost use Rattle.cyw43_run.specs.Onward.{endOf};
+ghost use Rattle.cyw43_turn.specs.Onward.{endOf};
 ghost use Rattle.player.specs.Text.{decimal, hex, rowOf, wordsOf, textOf};
 
 fn state_number(s: WifiState) -> u64

@@ -2,7 +2,7 @@ use mathlib.Core.Path.{_≡_, refl, _∙_}
 use Prim.Native.Nat.{_-_}
 use native.Mathlib.Omega.{arith}
 use Rattle.cyw43_effects.specs.Args.{argsOf}
-use Rattle.cyw43_run.proofs.TurnLaws as law
+use Rattle.cyw43_turn.proofs.TurnLaws as law
 use borrow.Author.Needs.{needs}
 use Rattle.slices.proofs.Over.{over-whole}
 use Rattle.cyw43_definition.specs.Prog.{world}

@@ -2,7 +2,7 @@ use mathlib.Core.Path.{_∙_}
 use mathlib.Core.List.{[]}
 use Prim.Native.Nat.{_-_}
 use Rattle.cyw43_effects.specs.Args.{argsOf}
-use Rattle.cyw43_run.proofs.TurnLaws as law
+use Rattle.cyw43_turn.proofs.TurnLaws as law
 use Rattle.cyw43_definition.specs.Event.{eventOf}
 use borrow.Author.Needs.{needs}
 use Rattle.cyw43_run.proofs.call.whole.Statement.{statement}

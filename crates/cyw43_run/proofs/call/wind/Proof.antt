@@ -1,8 +1,8 @@
 use mathlib.Core.Path.{_≡_}
 use Prim.Native.Nat.{_-_, ℕ}
 use native.Mathlib.Omega.{arith}
-use Rattle.cyw43_run.specs.Onward as to
-use Rattle.cyw43_run.proofs.TurnLaws as law
+use Rattle.cyw43_turn.specs.Onward as to
+use Rattle.cyw43_turn.proofs.TurnLaws as law
 use Rattle.slices.proofs.Over.{over-whole}
 use Rattle.cyw43_definition.specs.Prog.{world}
 use borrow.Author.Needs.{needs}

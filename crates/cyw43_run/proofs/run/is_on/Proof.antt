@@ -1,5 +1,5 @@
 use Prim.Native.Nat.{_-_}
-use Rattle.cyw43_run.specs.Onward as to
+use Rattle.cyw43_turn.specs.Onward as to
 use borrow.Author.Needs.{needs}
 use Rattle.cyw43_run.proofs.run.is_on.Statement.{statement}
 use Rattle.cyw43_run.proofs.run.is_on.Tie as tie

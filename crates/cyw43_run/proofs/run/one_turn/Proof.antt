@@ -1,7 +1,7 @@
 use mathlib.Core.Path.{refl}
 use Prim.Native.Nat.{_-_}
 use native.Mathlib.Omega.{arith}
-use Rattle.cyw43_run.specs.Onward as to
+use Rattle.cyw43_turn.specs.Onward as to
 use borrow.Author.Needs.{needs}
 use Rattle.cyw43_run.proofs.run.one_turn.Statement.{statement}
 use Rattle.cyw43_run.proofs.run.one_turn.Tie as tie

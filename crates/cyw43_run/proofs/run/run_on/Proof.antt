@@ -4,8 +4,8 @@ use Prim.Native.Nat.{_-_, _≤_}
 use native.Mathlib.Omega.{arith}
 use lib.ListN.{length}
 use Rattle.cyw43_effects.specs.Args.{argsOf}
-use Rattle.cyw43_run.specs.Onward as to
-use Rattle.cyw43_run.proofs.TurnLaws as law
+use Rattle.cyw43_turn.specs.Onward as to
+use Rattle.cyw43_turn.proofs.TurnLaws as law
 use Rattle.cyw43_definition.specs.Prog.{World}
 use Rattle.cyw43_run.proofs.run.run_on.Statement.{statement}
 use Rattle.cyw43_run.proofs.run.run_on.Tie as tie

@@ -1,8 +1,8 @@
 use mathlib.Core.Path.{_∙_}
 use Prim.Native.Nat.{_-_}
 use borrow.Author.Needs.{needs}
-use Rattle.cyw43_run.proofs.step.step_at.Statement.{statement}
-use Rattle.cyw43_run.proofs.step.step_at.Tie as tie
+use Rattle.cyw43_turn.proofs.step.step_at.Statement.{statement}
+use Rattle.cyw43_turn.proofs.step.step_at.Tie as tie
 
 call-op-requires : tie.Need-call-op-requires
 call-op-requires c κs = search needs

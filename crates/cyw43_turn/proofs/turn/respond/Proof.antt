@@ -8,11 +8,11 @@ use Rattle.cyw43_control.specs.Steps.{callOp}
 use Rattle.cyw43_control.specs.Meaning.{Kc, secretAt}
 use Rattle.cyw43_effects.specs.Answer.{isWait}
 use Rattle.cyw43_effects.specs.Args.{argsOf}
-use Rattle.cyw43_run.specs.Onward as to
-use Rattle.cyw43_run.proofs.TurnLaws as law
+use Rattle.cyw43_turn.specs.Onward as to
+use Rattle.cyw43_turn.proofs.TurnLaws as law
 use borrow.Author.Needs.{needs}
-use Rattle.cyw43_run.proofs.turn.respond.Statement.{statement}
-use Rattle.cyw43_run.proofs.turn.respond.Tie as tie
+use Rattle.cyw43_turn.proofs.turn.respond.Statement.{statement}
+use Rattle.cyw43_turn.proofs.turn.respond.Tie as tie
 
 -- whether the point's operation is a wait
 kind-is : (c : tie.After-is-wait) → c .is-wait .result ≡ isWait (callOp (c .before .before .before .before .before .before .args .p))

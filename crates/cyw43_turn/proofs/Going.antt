@@ -18,7 +18,7 @@ use Rattle.cyw43_definition.specs.Poll.{Result}
 use Rattle.cyw43_definition.specs.Run as def
 use Rattle.cyw43_definition.specs.Run.{End, Settled, settle, words, run, finished, rolledBack, answered, unanswered, resumed, afterwards}
 use Rattle.cyw43_definition.proofs.Compose.{unroll}
-use Rattle.cyw43_run.specs.Onward.{finish, go, heard}
+use Rattle.cyw43_turn.specs.Onward.{finish, go, heard}
 
 -- ---- the front opened
 

@@ -5,10 +5,10 @@ use lib.ListN.{length, drop}
 use Rattle.cyw43_definition.specs.Bus.{sizeOf}
 use Rattle.cyw43_control.specs.Steps.{callOp}
 use Rattle.cyw43_effects.specs.Answer.{answerIn}
-use Rattle.cyw43_run.proofs.TurnLaws as law
+use Rattle.cyw43_turn.proofs.TurnLaws as law
 use borrow.Author.Needs.{needs}
-use Rattle.cyw43_run.proofs.turn.got.Statement.{statement}
-use Rattle.cyw43_run.proofs.turn.got.Tie as tie
+use Rattle.cyw43_turn.proofs.turn.got.Statement.{statement}
+use Rattle.cyw43_turn.proofs.turn.got.Tie as tie
 
 bound : (c : tie.After-slice-known) → length (c .before .before .before .before .args .rec .now) < 18446744073709551616
 bound c = omega arith

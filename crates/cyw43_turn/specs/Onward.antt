@@ -26,10 +26,10 @@ use Rattle.cyw43_control.specs.Steps.{callOp}
 use Rattle.cyw43_control.specs.Begin.{callAnswer}
 use Rattle.cyw43_control.specs.Meaning.{Args, lensOf, Kc, secretAt, listAt, successOf}
 use Rattle.cyw43_effects.specs.Answer.{isWait}
-use Rattle.cyw43_run.specs.declared.standing.Standing.{Standing}
-use Rattle.cyw43_run.specs.declared.standing.RunNext.{RunNext}
-use Rattle.cyw43_run.specs.declared.standing.Running.{Running}
-use Rattle.cyw43_run.specs.declared.standing.CallEnd.{CallEnd}
+use Rattle.cyw43_turn.specs.declared.standing.Standing.{Standing}
+use Rattle.cyw43_turn.specs.declared.standing.RunNext.{RunNext}
+use Rattle.cyw43_turn.specs.declared.standing.Running.{Running}
+use Rattle.cyw43_turn.specs.declared.standing.CallEnd.{CallEnd}
 
 -- what a run shows, its log from index len on; a call that runs has no output
 unfoldable pub finish : List ℕ → ℕ → def.Run → End

@@ -37,10 +37,10 @@ use Rattle.cyw43_control.specs.Meaning.{Args, Kc, laidAll, listAt, callTree, ca
 use Rattle.cyw43_control.proofs.StageBridge.{Modest}
 use Rattle.cyw43_control.proofs.Bridge.{call-is}
 use Rattle.cyw43_effects.specs.Answer.{answerIn, isWait}
-use Rattle.cyw43_run.specs.declared.standing.RunNext.{RunNext}
-use Rattle.cyw43_run.specs.declared.standing.Running.{Running}
-use Rattle.cyw43_run.specs.Onward.{finish, go, heard, responded, onwardBy, onward, standing, nextIn, stepped, stepAt, eventIn, isOn, leftBy, endOf, calledBy}
-use Rattle.cyw43_run.proofs.Going.{go-unroll, go-ret, go-stop, go-ask, go-say}
+use Rattle.cyw43_turn.specs.declared.standing.RunNext.{RunNext}
+use Rattle.cyw43_turn.specs.declared.standing.Running.{Running}
+use Rattle.cyw43_turn.specs.Onward.{finish, go, heard, responded, onwardBy, onward, standing, nextIn, stepped, stepAt, eventIn, isOn, leftBy, endOf, calledBy}
+use Rattle.cyw43_turn.proofs.Going.{go-unroll, go-ret, go-stop, go-ask, go-say}
 
 -- ---- where a passphrase was laid is not seen
 

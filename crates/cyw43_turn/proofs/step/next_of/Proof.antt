@@ -1,8 +1,8 @@
 use Prim.Native.Nat.{_-_}
-use Rattle.cyw43_run.specs.Onward as to
+use Rattle.cyw43_turn.specs.Onward as to
 use borrow.Author.Needs.{needs}
-use Rattle.cyw43_run.proofs.step.next_of.Statement.{statement}
-use Rattle.cyw43_run.proofs.step.next_of.Tie as tie
+use Rattle.cyw43_turn.proofs.step.next_of.Statement.{statement}
+use Rattle.cyw43_turn.proofs.step.next_of.Tie as tie
 
 enum-known-n : tie.Need-enum-known-n
 enum-known-n c = search needs

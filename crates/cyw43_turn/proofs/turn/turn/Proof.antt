@@ -6,11 +6,11 @@ use Rattle.cyw43_bus.specs.Op.{opOf}
 use Rattle.cyw43_control.specs.Steps.{callOp}
 use Rattle.cyw43_control.specs.Meaning.{Kc, secretAt}
 use Rattle.cyw43_effects.specs.Args.{argsOf}
-use Rattle.cyw43_run.specs.Onward as to
-use Rattle.cyw43_run.proofs.TurnLaws as law
+use Rattle.cyw43_turn.specs.Onward as to
+use Rattle.cyw43_turn.proofs.TurnLaws as law
 use borrow.Author.Needs.{needs}
-use Rattle.cyw43_run.proofs.turn.turn.Statement.{statement}
-use Rattle.cyw43_run.proofs.turn.turn.Tie as tie
+use Rattle.cyw43_turn.proofs.turn.turn.Statement.{statement}
+use Rattle.cyw43_turn.proofs.turn.turn.Tie as tie
 
 bound : (c : tie.After-slice-known2) → length (c .before .before .before .before .before .args .log .now) < 18446744073709551616
 bound c = omega arith

@@ -7,11 +7,11 @@ use Rattle.cyw43_bus.specs.Taken.{takenOf}
 use Rattle.cyw43_control.specs.Steps.{callOp}
 use Rattle.cyw43_control.specs.Meaning.{Kc, secretAt}
 use Rattle.cyw43_effects.specs.Args.{argsOf}
-use Rattle.cyw43_run.specs.Onward as to
-use Rattle.cyw43_run.proofs.TurnLaws as law
+use Rattle.cyw43_turn.specs.Onward as to
+use Rattle.cyw43_turn.proofs.TurnLaws as law
 use borrow.Author.Needs.{needs}
-use Rattle.cyw43_run.proofs.turn.hear.Statement.{statement}
-use Rattle.cyw43_run.proofs.turn.hear.Tie as tie
+use Rattle.cyw43_turn.proofs.turn.hear.Statement.{statement}
+use Rattle.cyw43_turn.proofs.turn.hear.Tie as tie
 
 -- what was taken, by the point
 taken-is : (c : tie.After-take-answer) → c .take-answer .result ≡ takenOf (opOf (callOp (c .before .before .before .before .before .before .args .p)) []) (drop (c .before .before .before .before .before .before .args .at .pos) (c .before .before .before .before .before .before .args .rec .now))

@@ -1,7 +1,7 @@
 use Prim.Native.Nat.{_-_}
 use borrow.Author.Needs.{needs}
-use Rattle.cyw43_run.proofs.step.take_step.Statement.{statement}
-use Rattle.cyw43_run.proofs.step.take_step.Tie as tie
+use Rattle.cyw43_turn.proofs.step.take_step.Statement.{statement}
+use Rattle.cyw43_turn.proofs.step.take_step.Tie as tie
 
 lay-requires : tie.Need-lay-requires
 lay-requires c κs = search needs

@@ -29,7 +29,7 @@ ghost use Rattle.cyw43_control.specs.declared.Job as job;
 ghost use Rattle.cyw43_control.specs.Steps.{callOp};
 ghost use Rattle.cyw43_control.specs.Meaning.{lensOf, laidAll, Kc};
 ghost use Rattle.cyw43_effects.specs.Args.{argsOf};
-ghost use Rattle.cyw43_run.specs.Onward as to;
+ghost use Rattle.cyw43_turn.specs.Onward as to;
 
 fn next_of(n: CallNext, buf: &[u8]) -> RunNext
     ensures { λ r. ⌜ r ≡ to.nextIn n (now (buf .entry)) ⌝ }

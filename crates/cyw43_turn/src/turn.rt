@@ -32,7 +32,7 @@ ghost use Rattle.cyw43_control.specs.Steps.{callOp};
 ghost use Rattle.cyw43_control.specs.Meaning.{Kc, secretAt};
 ghost use Rattle.cyw43_effects.specs.Answer.{answerIn, isWait};
 ghost use Rattle.cyw43_effects.specs.Args.{argsOf};
-ghost use Rattle.cyw43_run.specs.Onward as to;
+ghost use Rattle.cyw43_turn.specs.Onward as to;
 
 // An answer that was taken: what it left lands in the buffer, and the call goes on past its words.
 fn got(

@@ -1,9 +1,9 @@
 use Prim.Native.Nat.{_-_}
 use Rattle.cyw43_effects.specs.Args.{argsOf}
-use Rattle.cyw43_run.proofs.TurnLaws as law
+use Rattle.cyw43_turn.proofs.TurnLaws as law
 use borrow.Author.Needs.{needs}
-use Rattle.cyw43_run.proofs.step.proceed.Statement.{statement}
-use Rattle.cyw43_run.proofs.step.proceed.Tie as tie
+use Rattle.cyw43_turn.proofs.step.proceed.Statement.{statement}
+use Rattle.cyw43_turn.proofs.step.proceed.Tie as tie
 
 step-at-requires : tie.Need-step-at-requires
 step-at-requires c κs = search needs
