@@ -1,26 +1,20 @@
 // init, scan, join, leave, abort, poll.
-use crate::jobs::init_job;
-use crate::jobs::invalid_arg;
-use crate::jobs::join_job;
-use crate::jobs::no_job;
-use crate::jobs::no_lens;
-use crate::jobs::plain_call;
-use cyw43_inner::begin::exchanges;
-use cyw43_inner::begin::join_start;
-use cyw43_inner::begin::scan_start;
 use cyw43_control::Stage;
+use cyw43_inner::begin::scan_start;
+use cyw43_jobs::jobs::exchanges_call;
+use cyw43_jobs::jobs::init_job;
+use cyw43_jobs::jobs::invalid_arg;
+use cyw43_jobs::jobs::no_job;
+use cyw43_jobs::jobs::no_lens;
+use cyw43_jobs::jobs::plain_call;
+use cyw43_jobs::join::connect;
 use cyw43_poll::polling;
-use cyw43_requests::security::auth_of;
-use cyw43_requests::security::too_long;
-use cyw43_run::call::call_from;
 use cyw43_turn::standing::CallEnd;
-use cyw43_turn::step::lens;
 use cyw43_types::scan::ScanList;
 use cyw43_types::state::State;
 ghost use mathlib.Core.Path.{_≡_};
 ghost use mathlib.Core.List.{[]};
-ghost use Prim.Native.Nat.{_<_, _≤_};
-ghost use lib.ListN.{length, take};
+ghost use Prim.Native.Nat.{_<_};
 ghost use Rattle.cyw43_definition.specs.Prog.{world};
 ghost use Rattle.cyw43_definition.specs.Calls.{Call};
 ghost use Rattle.cyw43_definition.specs.Run.{called};
@@ -36,9 +30,7 @@ pub fn wifi_init(
 ) -> CallEnd
     ensures { λ r. ⌜ endOf r (now (log .exit)) (now (buf .exit)) [] ≡ called (Call.wifiInit country) (world st (now (buf .entry)) list) (now (rec .entry)) (now (log .entry)) [] ⌝ }
 {
-    let j = init_job(country);
-    let s = exchanges(j, no_lens(), Stage::Country, st);
-    plain_call(s, j, st, list, rec, log, buf)
+    exchanges_call(init_job(country), Stage::Country, st, list, rec, log, buf)
 }
 
 pub fn wifi_scan(st: State, list: ScanList, rec: &[u32], log: &mut [u32], buf: &mut [u8]) -> CallEnd
@@ -47,37 +39,6 @@ pub fn wifi_scan(st: State, list: ScanList, rec: &[u32], log: &mut [u32], buf: &
     let j = no_job();
     let s = scan_start(j, no_lens(), st);
     plain_call(s, j, st, list, rec, log, buf)
-}
-
-// n where it is at most max, else 0: join refuses a longer argument without using it.
-fn at_most(max: usize, n: usize) -> usize
-    ensures { λ r. ⌜ (n ≤ max → r ≡ n) × (r ≤ max) × (r ≤ n) ⌝ }
-{
-    if n <= max { n } else { 0 }
-}
-
-// The arguments are in range.
-fn connect(
-    auth: u32,
-    ssid: &[u8],
-    passphrase: &[u8],
-    st: State,
-    list: ScanList,
-    rec: &[u32],
-    log: &mut [u32],
-    buf: &mut [u8],
-) -> CallEnd
-    requires { ⌜ auth < 6 ⌝ }
-    ensures { λ r. ⌜ endOf r (now (log .exit)) (now (buf .exit)) [] ≡ called (Call.wifiConnect auth (now (ssid .entry)) (now (passphrase .entry))) (world st (now (buf .entry)) list) (now (rec .entry)) (now (log .entry)) [] ⌝ }
-{
-    let a = auth_of(auth);
-    let j = join_job(a, too_long(a, passphrase.len()), 32 < ssid.len());
-    let n = at_most(32, ssid.len());
-    let m = at_most(128, passphrase.len());
-    let first = &ssid[..n];
-    let second = &passphrase[..m];
-    let s = join_start(j, lens(first, second), st);
-    call_from(s, j, first, second, st, list, rec, log, buf)
 }
 
 pub fn wifi_connect(
@@ -107,9 +68,7 @@ pub fn wifi_disconnect(
 ) -> CallEnd
     ensures { λ r. ⌜ endOf r (now (log .exit)) (now (buf .exit)) [] ≡ called Call.wifiDisconnect (world st (now (buf .entry)) list) (now (rec .entry)) (now (log .entry)) [] ⌝ }
 {
-    let j = no_job();
-    let s = exchanges(j, no_lens(), Stage::Disassoc, st);
-    plain_call(s, j, st, list, rec, log, buf)
+    exchanges_call(no_job(), Stage::Disassoc, st, list, rec, log, buf)
 }
 
 pub fn wifi_abort_connect(
@@ -121,9 +80,7 @@ pub fn wifi_abort_connect(
 ) -> CallEnd
     ensures { λ r. ⌜ endOf r (now (log .exit)) (now (buf .exit)) [] ≡ called Call.wifiAbortConnect (world st (now (buf .entry)) list) (now (rec .entry)) (now (log .entry)) [] ⌝ }
 {
-    let j = no_job();
-    let s = exchanges(j, no_lens(), Stage::Disassoc, st);
-    plain_call(s, j, st, list, rec, log, buf)
+    exchanges_call(no_job(), Stage::Disassoc, st, list, rec, log, buf)
 }
 
 pub fn wifi_poll(st: State, list: ScanList, rec: &[u32], log: &mut [u32], buf: &mut [u8]) -> CallEnd

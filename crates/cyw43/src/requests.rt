@@ -1,10 +1,10 @@
 // GPIO, MAC, get, set, variable, up: calls that are one exchange.
-use crate::jobs::exchange_call;
-use crate::jobs::invalid_arg;
-use crate::jobs::request_job;
-use cyw43_inner::begin::exchanges;
 use cyw43_control::Ending;
 use cyw43_control::Stage;
+use cyw43_inner::begin::exchanges;
+use cyw43_jobs::jobs::exchange_call;
+use cyw43_jobs::jobs::invalid_arg;
+use cyw43_jobs::jobs::request_job;
 use cyw43_requests::request::IovarName;
 use cyw43_requests::request::Request;
 use cyw43_requests::request::is_command;

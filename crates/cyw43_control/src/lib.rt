@@ -126,4 +126,3 @@ pub struct CallStep {
     pub lay: Lay,
     pub next: CallNext,
 }
-

@@ -2,12 +2,12 @@
 use cyw43_control::Before;
 use cyw43_control::Lay;
 use cyw43_control::RequestPut;
-use cyw43_work_buffer::copy_reply;
-use cyw43_work_buffer::lay_request;
-use cyw43_work_buffer::put_ioctl_header;
 use cyw43_sdpcm::header::put_data;
 use cyw43_sdpcm::header::put_header;
 use cyw43_send::HeaderPut;
+use cyw43_work_buffer::copy_reply;
+use cyw43_work_buffer::lay_request;
+use cyw43_work_buffer::put_ioctl_header;
 ghost use mathlib.Core.Path.{_≡_};
 ghost use Rattle.cyw43_control.specs.declared.Job as job;
 ghost use Rattle.cyw43_control.specs.Meaning as to;

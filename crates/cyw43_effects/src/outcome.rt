@@ -1,11 +1,11 @@
 // What a step does to the scan list, and what a call gives at its end.
+use cyw43_control::Ending;
 use cyw43_events::scan::cleared;
 use cyw43_events::scan::list_after;
-use cyw43_control::Ending;
-use cyw43_work_buffer::mac_in;
 use cyw43_types::outcome::Success;
 use cyw43_types::scan::ScanList;
 use cyw43_types::sdpcm::AsyncEvent;
+use cyw43_work_buffer::mac_in;
 ghost use mathlib.Core.Path.{_≡_};
 ghost use Rattle.cyw43_events.specs.Handle.{listHeard};
 ghost use Rattle.cyw43_control.specs.Meaning as to;

@@ -1,12 +1,12 @@
 // A call from its first step to its end, with roll-back.
 use crate::run::run_on;
+use cyw43_control::CallStep;
+use cyw43_control::Job;
+use cyw43_effects::arrival::no_event;
 use cyw43_turn::standing::CallEnd;
 use cyw43_turn::standing::RunNext;
 use cyw43_turn::standing::Running;
 use cyw43_turn::step::take_step;
-use cyw43_effects::arrival::no_event;
-use cyw43_control::CallStep;
-use cyw43_control::Job;
 use cyw43_types::outcome::Outcome;
 use cyw43_types::outcome::Refusal;
 use cyw43_types::scan::ScanList;

@@ -1,8 +1,8 @@
 // Operation by operation, to the call's end.
+use cyw43_control::Job;
 use cyw43_turn::standing::RunNext;
 use cyw43_turn::standing::Running;
 use cyw43_turn::turn::turn;
-use cyw43_control::Job;
 ghost use mathlib.Core.Path.{_≡_};
 ghost use mathlib.Core.Bool.{true, false};
 ghost use Prim.Native.Nat.{_+_, _-_, _<_, _≤_};

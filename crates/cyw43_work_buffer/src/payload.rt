@@ -1,15 +1,15 @@
 // What each request lays into the part of the work buffer from byte 28 on: the payload of the definition's request, and of it what fits.
+use cyw43_payload::put_address;
+use cyw43_payload::put_country;
+use cyw43_payload::put_escan;
+use cyw43_payload::put_event_messages;
+use cyw43_payload::put_key;
 use cyw43_payload::put_name;
+use cyw43_payload::put_sae_password;
+use cyw43_payload::put_ssid;
 use cyw43_payload::put_variable;
 use cyw43_payload::put_word;
 use cyw43_payload::put_zeros;
-use cyw43_payload::put_country;
-use cyw43_payload::put_event_messages;
-use cyw43_payload::put_escan;
-use cyw43_payload::put_address;
-use cyw43_payload::put_ssid;
-use cyw43_payload::put_key;
-use cyw43_payload::put_sae_password;
 use cyw43_requests::request::IovarName;
 use cyw43_requests::request::Request;
 use cyw43_requests::request::name_len;

@@ -1,10 +1,9 @@
 use mathlib.Core.Path.{_∙_}
 use mathlib.Core.List.{[]}
-use Prim.Native.Nat.{_-_}
 use Rattle.cyw43_definition.specs.Event.{eventOf}
 use Rattle.cyw43_definition.specs.Prog.{world}
 use Rattle.cyw43_definition.specs.Calls.{Call, call}
-use Rattle.cyw43.proofs.Starts as law
+use Rattle.cyw43_jobs.proofs.Starts as law
 use borrow.Author.Needs.{needs}
 use Rattle.cyw43.proofs.calls.wifi_init.Statement.{statement}
 use Rattle.cyw43.proofs.calls.wifi_init.Tie as tie
@@ -12,14 +11,8 @@ use Rattle.cyw43.proofs.calls.wifi_init.Tie as tie
 init-job-requires : tie.Need-init-job-requires
 init-job-requires c κs = search needs
 
-no-lens-requires : tie.Need-no-lens-requires
-no-lens-requires c κs = search needs
-
-exchanges-requires : tie.Need-exchanges-requires
-exchanges-requires c κs = search needs
-
-plain-call-requires : tie.Need-plain-call-requires
-plain-call-requires c κs = search needs
+exchanges-call-requires : tie.Need-exchanges-call-requires
+exchanges-call-requires c κs = search needs
 
 same-length : tie.Need-same-length
 same-length c = search needs
@@ -28,16 +21,9 @@ same-length-2 : tie.Need-same-length-2
 same-length-2 c = search needs
 
 returns : tie.Need-returns
-returns c = c .before .before .before .before .plain-call .ensures (call (Call.wifiInit (c .before .before .before .before .before .before .before .before .before .before .before .before .before .args .country)) (world (c .before .before .before .before .before .before .before .before .before .before .before .before .before .args .st) (c .before .before .before .before .before .before .before .before .before .before .before .before .before .args .buf .now) (c .before .before .before .before .before .before .before .before .before .before .before .before .before .args .list))) (rw (c .before .before .before .before .before .before .before .exchanges .ensures, c .before .before .before .before .before .before .before .before .no-lens .ensures, c .before .before .before .before .before .before .before .before .before .init-job .ensures) (law.init-is (eventOf [] 0) (world (c .before .before .before .before .before .before .before .before .before .before .before .before .before .args .st) (c .before .before .before .before .before .before .before .before .before .before .before .before .before .args .buf .now) (c .before .before .before .before .before .before .before .before .before .before .before .before .before .args .list)) (c .before .before .before .before .before .before .before .before .before .before .before .before .before .args .country))) ∙ law.called-is (Call.wifiInit (c .before .before .before .before .before .before .before .before .before .before .before .before .before .args .country)) (world (c .before .before .before .before .before .before .before .before .before .before .before .before .before .args .st) (c .before .before .before .before .before .before .before .before .before .before .before .before .before .args .buf .now) (c .before .before .before .before .before .before .before .before .before .before .before .before .before .args .list)) (c .before .before .before .before .before .before .before .before .before .before .before .before .before .args .rec .now) (c .before .before .before .before .before .before .before .before .before .before .before .before .before .args .log .now)
+returns c = c .before .before .before .before .exchanges-call .ensures (call (Call.wifiInit (c .before .before .before .before .before .before .before .before .before .before .before .args .country)) (world (c .before .before .before .before .before .before .before .before .before .before .before .args .st) (c .before .before .before .before .before .before .before .before .before .before .before .args .buf .now) (c .before .before .before .before .before .before .before .before .before .before .before .args .list))) (rw (c .before .before .before .before .before .before .before .init-job .ensures) (law.init-is (eventOf [] 0) (world (c .before .before .before .before .before .before .before .before .before .before .before .args .st) (c .before .before .before .before .before .before .before .before .before .before .before .args .buf .now) (c .before .before .before .before .before .before .before .before .before .before .before .args .list)) (c .before .before .before .before .before .before .before .before .before .before .before .args .country))) ∙ law.called-is (Call.wifiInit (c .before .before .before .before .before .before .before .before .before .before .before .args .country)) (world (c .before .before .before .before .before .before .before .before .before .before .before .args .st) (c .before .before .before .before .before .before .before .before .before .before .before .args .buf .now) (c .before .before .before .before .before .before .before .before .before .before .before .args .list)) (c .before .before .before .before .before .before .before .before .before .before .before .args .rec .now) (c .before .before .before .before .before .before .before .before .before .before .before .args .log .now)
 
 pub wifi-init-spec : {M : Type 1} → statement M
 wifi-init-spec =
     tie.close
-    (tie.spec
-    init-job-requires
-    no-lens-requires
-    exchanges-requires
-    plain-call-requires
-    same-length
-    same-length-2
-    returns)
+    (tie.spec init-job-requires exchanges-call-requires same-length same-length-2 returns)

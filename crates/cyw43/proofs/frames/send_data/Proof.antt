@@ -6,7 +6,7 @@ use borrow.Author.Tests.{leb-true, lt-leb}
 use Rattle.cyw43_definition.specs.Event.{eventOf}
 use Rattle.cyw43_definition.specs.Prog.{world}
 use Rattle.cyw43_definition.specs.Calls.{Call, call}
-use Rattle.cyw43.proofs.Starts as law
+use Rattle.cyw43_jobs.proofs.Starts as law
 use borrow.Author.Needs.{needs}
 use Rattle.cyw43.proofs.frames.send_data.Statement.{statement}
 use Rattle.cyw43.proofs.frames.send_data.Tie as tie

@@ -4,7 +4,7 @@ use Prim.Native.Nat.{_-_}
 use Rattle.cyw43_definition.specs.Event.{eventOf}
 use Rattle.cyw43_definition.specs.Prog.{world}
 use Rattle.cyw43_definition.specs.Calls.{Call, call}
-use Rattle.cyw43.proofs.Starts as law
+use Rattle.cyw43_jobs.proofs.Starts as law
 use borrow.Author.Needs.{needs}
 use Rattle.cyw43.proofs.requests.get_ioctl.Statement.{statement}
 use Rattle.cyw43.proofs.requests.get_ioctl.Tie as tie

@@ -7,8 +7,8 @@ use Rattle.cyw43_definition.specs.Prog.{world}
 use Rattle.cyw43_definition.specs.Calls.{Call, call}
 use Rattle.cyw43_requests.specs.declared.request.Request.{Request}
 use Rattle.cyw43_control.specs.declared.Ending.{Ending}
-use Rattle.cyw43.specs.Jobs as to
-use Rattle.cyw43.proofs.Starts as law
+use Rattle.cyw43_jobs.specs.Jobs as to
+use Rattle.cyw43_jobs.proofs.Starts as law
 use borrow.Author.Needs.{needs}
 use Rattle.cyw43.proofs.requests.write_iovar.Statement.{statement}
 use Rattle.cyw43.proofs.requests.write_iovar.Tie as tie

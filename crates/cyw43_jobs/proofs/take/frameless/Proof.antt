@@ -1,8 +1,8 @@
 use mathlib.Core.Path.{_∙_}
 use Prim.Native.Nat.{_-_}
 use borrow.Author.Needs.{needs}
-use Rattle.cyw43.proofs.frames.frameless.Statement.{statement}
-use Rattle.cyw43.proofs.frames.frameless.Tie as tie
+use Rattle.cyw43_jobs.proofs.take.frameless.Statement.{statement}
+use Rattle.cyw43_jobs.proofs.take.frameless.Tie as tie
 
 set-frame-requires : tie.Need-set-frame-requires
 set-frame-requires c κs = search needs

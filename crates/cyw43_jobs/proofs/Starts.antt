@@ -38,7 +38,7 @@ use Rattle.cyw43_events.specs.Handle.{listHeard}
 use Rattle.cyw43_send.specs.Meaning.{laidHeader}
 use Rattle.cyw43_effects.specs.Args.{argsOf}
 use Rattle.cyw43_turn.specs.Onward.{calledBy}
-use Rattle.cyw43.specs.Jobs.{noJob, initJob, joinJob, frameJob, requestJob, plain, refused, singleStep}
+use Rattle.cyw43_jobs.specs.Jobs.{noJob, initJob, joinJob, frameJob, requestJob, plain, refused, singleStep}
 
 pub called-is : (c : Call) (w : World) (rec log : List ℕ) → calledBy w rec log (call c w) ≡ called c w rec log []
 unfolding calledBy called runOf

@@ -1,14 +1,14 @@
 // What each call hands to the run beside its byte arguments, and the run of a call without any.
-use cyw43_inner::begin::exchanges;
 use cyw43_control::Before;
 use cyw43_control::CallStep;
 use cyw43_control::Ending;
 use cyw43_control::Job;
 use cyw43_control::Lens;
 use cyw43_control::Stage;
-use cyw43_steps::steps::refuse;
+use cyw43_inner::begin::exchanges;
 use cyw43_requests::request::Request;
 use cyw43_run::call::call_from;
+use cyw43_steps::steps::refuse;
 use cyw43_turn::standing::CallEnd;
 use cyw43_types::link::WifiAuth;
 use cyw43_types::outcome::DriverError;
@@ -24,9 +24,10 @@ ghost use Rattle.cyw43_definition.specs.Poll.{Result};
 ghost use Rattle.cyw43_definition.specs.Run.{called};
 ghost use Rattle.cyw43_definition.specs.Calls.{Call};
 ghost use Rattle.cyw43_definition.proofs.Compose.{unroll};
+ghost use Rattle.cyw43_control.specs.Begin.{exchangesStep};
 ghost use Rattle.cyw43_control.specs.Meaning.{callShown};
 ghost use Rattle.cyw43_turn.specs.Onward.{endOf, calledBy};
-ghost use Rattle.cyw43.specs.Jobs as to;
+ghost use Rattle.cyw43_jobs.specs.Jobs as to;
 
 pub fn no_job() -> Job
     ensures { λ r. ⌜ r ≡ to.noJob ⌝ }
@@ -116,6 +117,21 @@ pub fn plain_call(
     call_from(s, j, &none, &none, st, list, rec, log, buf)
 }
 
+// A call that is nothing but exchanges, from g on, and has no byte arguments.
+pub fn exchanges_call(
+    j: Job,
+    g: Stage,
+    st: State,
+    list: ScanList,
+    rec: &[u32],
+    log: &mut [u32],
+    buf: &mut [u8],
+) -> CallEnd
+    ensures { λ x. ⌜ ((p : Prog Result) → unroll p ≡ callShown (to.plain j) (exchangesStep j to.noLens g st) (eventOf [] 0) (world st (now (buf .entry)) list) → endOf x (now (log .exit)) (now (buf .exit)) [] ≡ calledBy (world st (now (buf .entry)) list) (now (rec .entry)) (now (log .entry)) p) ⌝ }
+{
+    plain_call(exchanges(j, no_lens(), g, st), j, st, list, rec, log, buf)
+}
+
 // A call that is one exchange, of a request without byte arguments.
 pub fn exchange_call(
     r: Request,
@@ -128,9 +144,7 @@ pub fn exchange_call(
 ) -> CallEnd
     ensures { λ x. ⌜ ((p : Prog Result) → unroll p ≡ callShown (to.plain (to.requestJob r e)) (to.singleStep r e [] [] st) (eventOf [] 0) (world st (now (buf .entry)) list) → endOf x (now (log .exit)) (now (buf .exit)) [] ≡ calledBy (world st (now (buf .entry)) list) (now (rec .entry)) (now (log .entry)) p) ⌝ }
 {
-    let j = request_job(r, e);
-    let s = exchanges(j, no_lens(), Stage::Single, st);
-    plain_call(s, j, st, list, rec, log, buf)
+    exchanges_call(request_job(r, e), Stage::Single, st, list, rec, log, buf)
 }
 
 // Arguments that are refused: 13 comes first.

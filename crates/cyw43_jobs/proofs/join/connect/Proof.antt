@@ -7,12 +7,12 @@ use Rattle.cyw43_definition.specs.Event.{eventOf}
 use Rattle.cyw43_definition.specs.Prog.{world}
 use Rattle.cyw43_definition.specs.Calls.{Call, call}
 use Rattle.cyw43_definition.specs.Join.{authOf, tooLong}
-use Rattle.cyw43.specs.Jobs as to
-use Rattle.cyw43.proofs.Starts as law
+use Rattle.cyw43_jobs.specs.Jobs as to
+use Rattle.cyw43_jobs.proofs.Starts as law
 use lib.Dec.{ltb}
 use borrow.Author.Needs.{needs}
-use Rattle.cyw43.proofs.calls.connect.Statement.{statement}
-use Rattle.cyw43.proofs.calls.connect.Tie as tie
+use Rattle.cyw43_jobs.proofs.join.connect.Statement.{statement}
+use Rattle.cyw43_jobs.proofs.join.connect.Tie as tie
 
 auth-of-requires : tie.Need-auth-of-requires
 auth-of-requires c κs = search needs

@@ -3,11 +3,11 @@ use Prim.Native.Nat.{_-_}
 use Rattle.cyw43_types.specs.declared.outcome.DriverError.{DriverError}
 use Rattle.cyw43_definition.specs.Event.{eventOf}
 use Rattle.cyw43_definition.specs.Prog.{world}
-use Rattle.cyw43.specs.Jobs as to
-use Rattle.cyw43.proofs.Starts as law
+use Rattle.cyw43_jobs.specs.Jobs as to
+use Rattle.cyw43_jobs.proofs.Starts as law
 use borrow.Author.Needs.{needs}
-use Rattle.cyw43.proofs.jobs.invalid_arg.Statement.{statement}
-use Rattle.cyw43.proofs.jobs.invalid_arg.Tie as tie
+use Rattle.cyw43_jobs.proofs.jobs.invalid_arg.Statement.{statement}
+use Rattle.cyw43_jobs.proofs.jobs.invalid_arg.Tie as tie
 
 refuse-requires : tie.Need-refuse-requires
 refuse-requires c κs = search needs

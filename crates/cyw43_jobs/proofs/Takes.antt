@@ -23,7 +23,7 @@ use Rattle.cyw43_definition.specs.Calls.{Call, call, taken, frameless}
 use Rattle.cyw43_definition.specs.Run.{End, shown, run, finished, called, runOf}
 use Rattle.cyw43_turn.specs.Onward.{endOf}
 use Rattle.cyw43_turn.proofs.Going.{run-ret, run-stop}
-use Rattle.cyw43.specs.Take.{ended, driverError, framelessState, frameTaken}
+use Rattle.cyw43_jobs.specs.Take.{ended, driverError, framelessState, frameTaken}
 
 module _ (w : World) (rec log : List ℕ) (out : Bytes) where
   -- what is shown where nothing is logged

@@ -1,10 +1,10 @@
 use Prim.Native.Nat.{_-_}
 use borrow.Author.Tests.{lt-ltb, le-ltb}
-use Rattle.cyw43.specs.Take as frame
+use Rattle.cyw43_jobs.specs.Take as frame
 use native.Mathlib.Nat.{add-sub-cancel-left}
 use borrow.Author.Needs.{needs}
-use Rattle.cyw43.proofs.frames.take_frame.Statement.{statement}
-use Rattle.cyw43.proofs.frames.take_frame.Tie as tie
+use Rattle.cyw43_jobs.proofs.take.take_frame.Statement.{statement}
+use Rattle.cyw43_jobs.proofs.take.take_frame.Tie as tie
 
 frameless-requires : tie.Need-frameless-requires
 frameless-requires c κs = search needs
