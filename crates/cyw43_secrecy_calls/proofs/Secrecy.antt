@@ -9,7 +9,7 @@ use Rattle.cyw43_definition.specs.Prog.{World, world}
 use Rattle.cyw43_definition.specs.Run.{End, called, shown}
 use Rattle.cyw43_secrecy.specs.Secrecy.{Given, Same, seen, observed, endOf, history, Every, Came, Idle}
 use Rattle.cyw43_secrecy.proofs.Secrecy.{secrecy}
-use Rattle.cyw43_secrecy_calls.specs.CallsSecrecy.{Ran, wifiInit, wifiScan, wifiConnect, wifiDisconnect, wifiAbortConnect, wifiPoll, sendData, getRxBuf, gpioSet, getMacAddr, getIoctl, setIoctl, writeIovar, up, Chain, none, more, seenOf, compared, logged, Logs, CallsSecrecy}
+use Rattle.cyw43_secrecy_calls.specs.CallsSecrecy.{Ran, wifiInit, wifiScan, wifiConnect, wifiDisconnect, wifiAbortConnect, wifiPoll, sendData, getRxBuf, gpioSet, getMacAddr, getIoctl, setIoctl, writeIovar, up, Chain, none, more, seenOf, compared, Logs, CallsSecrecy}
 
 -- each contract
 ran-is : {g : Given} {w : World} {e : End} → Ran g w e → e ≡ endOf g w
