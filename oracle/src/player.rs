@@ -9,6 +9,8 @@ use crate::{
 };
 
 pub const LOG: usize = 8192;
+/// In a session file: a fresh state, list and buffer.
+pub const ANEW: u32 = 0xd000_0000;
 const ARGUMENTS: usize = 2048;
 const RECORDING: usize = 4096;
 const OUTPUT: u32 = 2048;
@@ -90,6 +92,8 @@ pub enum Print {
     Full,
     /// The same with the buffer's FNV-1a hash.
     Hashed,
+    /// The same as numbers on one line, as the observer prints it.
+    Numbers,
 }
 
 /// What the player prints for one call.
@@ -165,15 +169,72 @@ pub fn full_lines(result: &CallResult, oracle: &Oracle, out: &[u8], print: Print
     text
 }
 
+fn sum(start: u64, bytes: &[u8]) -> u64 {
+    bytes.iter().fold(start, |h, &b| (h * 4099 + u64::from(b) + 1) % 281_474_976_710_597)
+}
+
+fn failure_numbers(f: Option<Failure>) -> Vec<u64> {
+    match f {
+        None => vec![0],
+        Some(f) => vec![u64::from(f.kind) + 1, f.status.into(), f.reason.into()],
+    }
+}
+
+/// The further line of `--numbers`: mark, reply, frame, scan marks, failure, auth, tick; the
+/// failure reported; count and sum of the scan list; sums of work buffer and output. What is
+/// not there is 0; what is, 1 (a failure: its place from 1) and its numbers.
+pub fn number_line(result: &CallResult, oracle: &Oracle, out: &[u8]) -> String {
+    let s = oracle.state();
+    let mut numbers = vec![u64::from(s.had_successful_packet)];
+    match s.pending_ioctl_resp {
+        None => numbers.push(0),
+        Some(r) => numbers.extend([1, r.offset as u64, r.len as u64, u64::from(r.status as u32)]),
+    }
+    match s.pending_rx {
+        None => numbers.push(0),
+        Some(b) => numbers.extend([1, b.offset as u64, b.len as u64]),
+    }
+    numbers.extend([u64::from(s.scan_done), u64::from(s.scan_in_progress)]);
+    numbers.extend(failure_numbers(s.connect_failure));
+    numbers.push(s.current_auth.into());
+    match s.disconnect_started_tick {
+        None => numbers.push(0),
+        Some(t) => numbers.extend([1, t]),
+    }
+    numbers.extend(failure_numbers(result.failure));
+    let records = oracle.records();
+    numbers.push(records.len() as u64);
+    numbers.push(records.iter().fold(0, |h, r| {
+        let h = sum(sum(sum(h, &r.ssid), &[r.ssid_len as u8]), &r.bssid);
+        sum(sum(h, &r.channel.to_le_bytes()), &r.rssi.to_le_bytes())
+    }));
+    numbers.extend([sum(0, oracle.buffer()), sum(0, out)]);
+    let mut text = String::new();
+    for n in numbers {
+        write!(text, "{n} ").unwrap();
+    }
+    text + "\n"
+}
+
 /// All that the player prints for an input. With `capacities`, one word 0xE0000000 + log
-/// capacity stands before each call, as in a session file.
+/// capacity stands before each call, as in a session file, and `ANEW` begins another session.
 pub fn play(input: &[u8], print: Print, capacities: bool) -> String {
     let mut oracle = Oracle::new();
     let mut input = Input(input);
     let mut text = String::new();
     while !input.is_empty() {
         let capacity = match capacities {
-            true => input.word().and_then(|w| w.checked_sub(0xe000_0000)).map(|n| n as usize),
+            true => {
+                let mut word = input.word();
+                while word == Some(ANEW) {
+                    oracle = Oracle::new();
+                    word = match input.is_empty() {
+                        true => return text,
+                        false => input.word(),
+                    };
+                }
+                word.and_then(|w| w.checked_sub(0xe000_0000)).map(|n| n as usize)
+            }
             false => Some(LOG),
         };
         let Some((capacity, played)) = capacity.zip(input.call()) else {
@@ -183,8 +244,10 @@ pub fn play(input: &[u8], print: Print, capacities: bool) -> String {
         let mut out = vec![0; played.output()];
         let result = oracle.call(played.call, &played.args, &played.recording, capacity, &mut out);
         text += &lines(played.call, &result, &oracle);
-        if print != Print::Plain {
-            text += &full_lines(&result, &oracle, &out, print);
+        match print {
+            Print::Plain => {}
+            Print::Numbers => text += &number_line(&result, &oracle, &out),
+            _ => text += &full_lines(&result, &oracle, &out, print),
         }
         if result.panic.is_some() {
             break;
