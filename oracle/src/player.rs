@@ -169,46 +169,43 @@ pub fn full_lines(result: &CallResult, oracle: &Oracle, out: &[u8], print: Print
     text
 }
 
-fn sum(start: u64, bytes: &[u8]) -> u64 {
-    bytes.iter().fold(start, |h, &b| (h * 4099 + u64::from(b) + 1) % 281_474_976_710_597)
+fn sum(start: u64, numbers: impl IntoIterator<Item = u64>) -> u64 {
+    numbers.into_iter().fold(start, |h, n| (h * 4099 + n + 1) % 281_474_976_710_597)
 }
 
-fn failure_numbers(f: Option<Failure>) -> Vec<u64> {
-    match f {
-        None => vec![0],
-        Some(f) => vec![u64::from(f.kind) + 1, f.status.into(), f.reason.into()],
-    }
+fn sum_bytes(start: u64, bytes: &[u8]) -> u64 {
+    sum(start, bytes.iter().map(|&b| b.into()))
 }
 
-/// The further line of `--numbers`: mark, reply, frame, scan marks, failure, auth, tick; the
+fn failure_numbers(f: Option<Failure>) -> [u64; 3] {
+    f.map_or([0; 3], |f| [u64::from(f.kind) + 1, f.status.into(), f.reason.into()])
+}
+
+/// The further line of `--numbers`: mark, scan marks, auth; reply; frame; failure; tick; the
 /// failure reported; count and sum of the scan list; sums of work buffer and output. What is
-/// not there is 0; what is, 1 (a failure: its place from 1) and its numbers.
+/// not there is zeros; what is, 1 (a failure: its place from 1) and its numbers.
 pub fn number_line(result: &CallResult, oracle: &Oracle, out: &[u8]) -> String {
     let s = oracle.state();
-    let mut numbers = vec![u64::from(s.had_successful_packet)];
-    match s.pending_ioctl_resp {
-        None => numbers.push(0),
-        Some(r) => numbers.extend([1, r.offset as u64, r.len as u64, u64::from(r.status as u32)]),
-    }
-    match s.pending_rx {
-        None => numbers.push(0),
-        Some(b) => numbers.extend([1, b.offset as u64, b.len as u64]),
-    }
-    numbers.extend([u64::from(s.scan_done), u64::from(s.scan_in_progress)]);
+    let mut numbers: Vec<u64> = vec![
+        s.had_successful_packet.into(),
+        s.scan_done.into(),
+        s.scan_in_progress.into(),
+        s.current_auth.into(),
+    ];
+    numbers.extend(s.pending_ioctl_resp.map_or([0; 4], |r| {
+        [1, r.offset as u64, r.len as u64, u64::from(r.status as u32)]
+    }));
+    numbers.extend(s.pending_rx.map_or([0; 3], |b| [1, b.offset as u64, b.len as u64]));
     numbers.extend(failure_numbers(s.connect_failure));
-    numbers.push(s.current_auth.into());
-    match s.disconnect_started_tick {
-        None => numbers.push(0),
-        Some(t) => numbers.extend([1, t]),
-    }
+    numbers.extend(s.disconnect_started_tick.map_or([0; 2], |t| [1, t]));
     numbers.extend(failure_numbers(result.failure));
     let records = oracle.records();
     numbers.push(records.len() as u64);
     numbers.push(records.iter().fold(0, |h, r| {
-        let h = sum(sum(sum(h, &r.ssid), &[r.ssid_len as u8]), &r.bssid);
-        sum(sum(h, &r.channel.to_le_bytes()), &r.rssi.to_le_bytes())
+        let rest = [r.ssid_len as u64, r.channel.into(), u64::from(r.rssi as u16)];
+        sum(sum_bytes(sum_bytes(h, &r.ssid), &r.bssid), rest)
     }));
-    numbers.extend([sum(0, oracle.buffer()), sum(0, out)]);
+    numbers.extend([sum_bytes(0, oracle.buffer()), sum_bytes(0, out)]);
     let mut text = String::new();
     for n in numbers {
         write!(text, "{n} ").unwrap();

@@ -1,6 +1,8 @@
 // The observer: plays a session file, which has a log's length before each call, and prints the player's lines of each call and
 // then all else that it left.
+mod print;
 mod show;
+mod sum;
 
 use cyw43_player::input::Next;
 use cyw43_player::input::Word;
@@ -9,7 +11,10 @@ use cyw43_types::state::State;
 ghost use mathlib.Core.Path.{_≡_};
 ghost use Prim.Native.Nat.{_≤_};
 ghost use lib.ListN.{length, replicate};
+ghost use Rattle.cyw43_definition.specs.Prog.{world};
+ghost use Rattle.cyw43_definition.specs.Player.{argumentsOf, playedCall};
 ghost use Rattle.cyw43_player.specs.Input.{outputLength};
+ghost use Rattle.cyw43_player.specs.Play.{worldAfter};
 
 // What passes from call to call beside the work buffer.
 struct Session {
@@ -76,14 +81,15 @@ fn play(
     requires { ⌜ now out ≡ replicate (outputLength call (now args)) 0 ⌝ }
     requires { ⌜ length (now log) ≤ 8192 ⌝ }
     requires { ⌜ 73917 ≤ length (now text) ⌝ }
+    ensures { λ r. ⌜ world (r .st) (now (buf .exit)) (r .list) ≡ worldAfter (playedCall (world (s .st) (now (buf .entry)) (s .list)) (now (rec .entry)) (now (log .entry)) (now (out .entry)) (argumentsOf call (now (args .entry)))) ⌝ }
 {
     let st = s.st;
     let list = s.list;
     let e = cyw43_player::calls::play_call(call, args, st, list, rec, log, buf, out);
     let k = cyw43_player::text::put_lines(text, call, e, log);
     let going = io::write_all(1, &text[..k]);
-    show::show_end(e);
-    show::show_bytes(buf, out);
+    print::end(e);
+    print::bytes(buf, out);
     let after = e.st;
     let heard = e.list;
     Session {
