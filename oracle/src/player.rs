@@ -215,26 +215,22 @@ pub fn number_line(result: &CallResult, oracle: &Oracle, out: &[u8]) -> String {
 
 /// All that the player prints for an input. With `capacities`, one word 0xE0000000 + log
 /// capacity stands before each call, as in a session file, and `ANEW` begins another session.
+/// A panic ends the session.
 pub fn play(input: &[u8], print: Print, capacities: bool) -> String {
     let mut oracle = Oracle::new();
     let mut input = Input(input);
     let mut text = String::new();
     while !input.is_empty() {
-        let capacity = match capacities {
-            true => {
-                let mut word = input.word();
-                while word == Some(ANEW) {
-                    oracle = Oracle::new();
-                    word = match input.is_empty() {
-                        true => return text,
-                        false => input.word(),
-                    };
-                }
-                word.and_then(|w| w.checked_sub(0xe000_0000)).map(|n| n as usize)
+        let mut capacity = Some(LOG);
+        if capacities {
+            let word = input.word();
+            if word == Some(ANEW) {
+                oracle = Oracle::new();
+                continue;
             }
-            false => Some(LOG),
-        };
-        let Some((capacity, played)) = capacity.zip(input.call()) else {
+            capacity = word.and_then(|w| w.checked_sub(0xe000_0000)).map(|n| n as usize);
+        }
+        let Some((capacity, played)) = capacity.filter(|&n| n <= LOG).zip(input.call()) else {
             text += "bad\n";
             break;
         };
@@ -246,7 +242,7 @@ pub fn play(input: &[u8], print: Print, capacities: bool) -> String {
             Print::Numbers => text += &number_line(&result, &oracle, &out),
             _ => text += &full_lines(&result, &oracle, &out, print),
         }
-        if result.panic.is_some() {
+        if result.panic.is_some() && !input.0.starts_with(&ANEW.to_le_bytes()) {
             break;
         }
     }
