@@ -1,8 +1,6 @@
 // The observer: plays a session file, which has a log's length before each call, and prints the player's lines of each call and
 // then all else that it left.
 mod print;
-mod show;
-mod sum;
 
 use cyw43_player::input::Next;
 use cyw43_player::input::Word;
