@@ -17,15 +17,8 @@ use Rattle.cyw43_definition.specs.Prog.{World}
 use Rattle.cyw43_definition.specs.Run.{finished, shown}
 use Rattle.cyw43_definition.specs.Calls.{Call}
 use Rattle.cyw43_definition.specs.Player.{callWith, badArguments, nameLength, joinOf, variableOf}
-use Rattle.cyw43_player.specs.Input.{isCall, complete}
-
-both : (s t : Bool) → (s && t) ≡ true → (s ≡ true) × (t ≡ true)
-both true true h = (refl, refl)
-both true false h = (refl, h)
-both false t h = absurd (let z : _≡_ {A = ℕ} 0 1 = cc in omega arith)
-
-pub call-above : (h : ℕ) → isCall h ≡ true → 0xF0000000 < h
-call-above h e = ltb-true 0xF0000000 h (both (ltb 0xF0000000 h) (leb h 0xF000000E) e .0)
+use Rattle.cyw43_lines.specs.Input.{complete}
+use Rattle.cyw43_lines.proofs.Read.{both}
 
 name-cons : (x : ℕ) (s : List ℕ) → (x ≡ 0 → ⊥) → nameLength (x ∷ s) ≡ suc (nameLength s)
 unfolding nameLength

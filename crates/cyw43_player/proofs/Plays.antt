@@ -17,9 +17,9 @@ use Rattle.cyw43_definition.specs.Run.{End, called}
 use Rattle.cyw43_definition.specs.Player.{Arguments, callWith, badArguments, nameLength, joinOf, variableOf, argumentsOf, emptyLog, playedCall, lineOf, one, nextCall, playFrom}
 use Rattle.cyw43_run.specs.declared.standing.CallEnd.{CallEnd}
 use Rattle.cyw43_run.specs.Onward.{endOf}
-use Rattle.cyw43_player.specs.Input.{outputLength, Plain, complete}
+use Rattle.cyw43_lines.specs.Input.{outputLength, Plain, complete}
 use Rattle.cyw43_player.specs.Play.{callEnd, worldAfter, Fronts}
-use Rattle.cyw43_player.specs.Text.{textOf}
+use Rattle.cyw43_lines.specs.Text.{textOf}
 use Rattle.cyw43_player.proofs.Arguments.{join-complete, variable-complete}
 
 -- ---- the end of the call

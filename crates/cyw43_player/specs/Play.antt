@@ -6,7 +6,7 @@ use lib.ListN.{length, take, replicate}
 use Rattle.cyw43_definition.specs.Prog.{World, world}
 use Rattle.cyw43_definition.specs.Run.{End}
 use Rattle.cyw43_definition.specs.Player.{argumentsOf, emptyLog, playedCall}
-use Rattle.cyw43_player.specs.Input.{outputLength}
+use Rattle.cyw43_lines.specs.Input.{outputLength}
 
 -- a: the argument bytes
 abbrev pub callEnd : World → List ℕ → ℕ → List ℕ → End

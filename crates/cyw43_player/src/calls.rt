@@ -13,7 +13,7 @@ ghost use lib.ListN.{replicate};
 ghost use Rattle.cyw43_definition.specs.Prog.{world};
 ghost use Rattle.cyw43_definition.specs.Player.{nameLength, joinOf, variableOf, argumentsOf, playedCall, badArguments};
 ghost use Rattle.cyw43_run.specs.Onward.{endOf};
-ghost use Rattle.cyw43_player.specs.Input.{outputLength, complete, Plain};
+ghost use Rattle.cyw43_lines.specs.Input.{outputLength, complete, Plain};
 
 // Bad arguments: nothing is changed.
 fn refused(st: State, list: ScanList) -> CallEnd

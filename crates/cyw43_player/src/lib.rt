@@ -1,4 +1,2 @@
-// What the player's programs share: calls read from standard input, played on the driver, and shown as lines.
+// What the player's programs share: the calls with their arguments as bytes.
 pub mod calls;
-pub mod input;
-pub mod text;

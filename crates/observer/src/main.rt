@@ -2,8 +2,8 @@
 // then all else that it left.
 mod print;
 
-use cyw43_player::input::Next;
-use cyw43_player::input::Word;
+use cyw43_lines::input::Next;
+use cyw43_lines::input::Word;
 use cyw43_types::scan::ScanList;
 use cyw43_types::state::State;
 ghost use mathlib.Core.Path.{_≡_};
@@ -11,7 +11,7 @@ ghost use Prim.Native.Nat.{_≤_};
 ghost use lib.ListN.{length, replicate};
 ghost use Rattle.cyw43_definition.specs.Prog.{world};
 ghost use Rattle.cyw43_definition.specs.Player.{argumentsOf, playedCall};
-ghost use Rattle.cyw43_player.specs.Input.{outputLength};
+ghost use Rattle.cyw43_lines.specs.Input.{outputLength};
 ghost use Rattle.cyw43_player.specs.Play.{worldAfter};
 
 // What passes from call to call beside the work buffer.
@@ -84,7 +84,7 @@ fn play(
     let st = s.st;
     let list = s.list;
     let e = cyw43_player::calls::play_call(call, args, st, list, rec, log, buf, out);
-    let k = cyw43_player::text::put_lines(text, call, e, log);
+    let k = cyw43_lines::text::put_lines(text, call, e, log);
     let going = io::write_all(1, &text[..k]);
     print::end(e);
     print::bytes(buf, out);
@@ -112,7 +112,7 @@ fn play_on(
     requires { ⌜ 73917 ≤ length (now text) ⌝ }
 {
     let mut out = zero_bytes();
-    let n = cyw43_player::input::output_length(call, args);
+    let n = cyw43_lines::input::output_length(call, args);
     play(call, args, rec, s, log, &mut out[..n], buf, text)
 }
 
@@ -123,7 +123,7 @@ fn call(s: Session, log: &mut [u32], buf: &mut [u8], text: &mut [u8]) -> Session
 {
     let mut args = zero_bytes();
     let mut rec = recording_words();
-    let next = cyw43_player::input::read_call(&mut args, &mut rec);
+    let next = cyw43_lines::input::read_call(&mut args, &mut rec);
     match next {
         Next::Nothing => bad(s),
         Next::Bad => bad(s),
@@ -138,7 +138,7 @@ fn turn(s: Session, buf: &mut [u8], text: &mut [u8]) -> Session
     requires { ⌜ 73917 ≤ length (now text) ⌝ }
 {
     let mut log = log_words();
-    let w = cyw43_player::input::read_word();
+    let w = cyw43_lines::input::read_word();
     match w {
         Word::End => ended(s),
         Word::Cut => bad(s),

@@ -1,6 +1,6 @@
 // The player: reads calls from standard input, plays each on the driver and prints its lines.
 
-use cyw43_player::input::Next;
+use cyw43_lines::input::Next;
 use cyw43_types::scan::ScanList;
 use cyw43_types::state::State;
 ghost use mathlib.Core.Path.{_≡_};
@@ -8,9 +8,9 @@ ghost use Prim.Native.Nat.{_≤_};
 ghost use lib.ListN.{length, replicate};
 ghost use Rattle.cyw43_definition.specs.Prog.{world};
 ghost use Rattle.cyw43_definition.specs.Player.{lineOf};
-ghost use Rattle.cyw43_player.specs.Input.{outputLength};
+ghost use Rattle.cyw43_lines.specs.Input.{outputLength};
 ghost use Rattle.cyw43_player.specs.Play.{callEnd, worldAfter, Fronts};
-ghost use Rattle.cyw43_player.specs.Text.{textOf};
+ghost use Rattle.cyw43_lines.specs.Text.{textOf};
 
 // What passes from call to call beside the work buffer.
 struct Session {
@@ -66,9 +66,9 @@ fn play(call: u32, args: &[u8], rec: &[u32], s: Session, buf: &mut [u8], text: &
     let mut out = zero_bytes();
     let st = s.st;
     let list = s.list;
-    let n = cyw43_player::input::output_length(call, args);
+    let n = cyw43_lines::input::output_length(call, args);
     let e = cyw43_player::calls::play_call(call, args, st, list, rec, &mut log, buf, &mut out[..n]);
-    let k = cyw43_player::text::put_lines(text, call, e, &log);
+    let k = cyw43_lines::text::put_lines(text, call, e, &log);
     let going = io::write_all(1, &text[..k]);
     let after = e.st;
     let heard = e.list;
@@ -85,7 +85,7 @@ fn turn(s: Session, buf: &mut [u8], text: &mut [u8]) -> Session
 {
     let mut args = zero_bytes();
     let mut rec = recording_words();
-    let next = cyw43_player::input::read_call(&mut args, &mut rec);
+    let next = cyw43_lines::input::read_call(&mut args, &mut rec);
     match next {
         Next::Nothing => ended(s),
         Next::Bad => {
