@@ -40,31 +40,6 @@ fn bad(s: Session) -> Session {
     ended(s)
 }
 
-fn log_words() -> [u32; 8192]
-    ensures { λ r. ⌜ 8192 ≡ length r ⌝ }
-{
-    [0; 8192]
-}
-
-fn zero_bytes() -> [u8; 2048]
-    ensures { λ r. ⌜ r ≡ replicate 2048 0 ⌝ }
-    ensures { λ r. ⌜ 2048 ≡ length r ⌝ }
-{
-    [0; 2048]
-}
-
-fn recording_words() -> [u32; 4096]
-    ensures { λ r. ⌜ 4096 ≡ length r ⌝ }
-{
-    [0; 4096]
-}
-
-fn line_bytes() -> [u8; 73917]
-    ensures { λ r. ⌜ 73917 ≡ length r ⌝ }
-{
-    [0; 73917]
-}
-
 // Plays one call on this log and output, and prints all of it.
 fn play(
     call: u32,
@@ -111,7 +86,7 @@ fn play_on(
     requires { ⌜ length (now log) ≤ 8192 ⌝ }
     requires { ⌜ 73917 ≤ length (now text) ⌝ }
 {
-    let mut out = zero_bytes();
+    let mut out = cyw43_lines::room::zero_bytes();
     let n = cyw43_lines::input::output_length(call, args);
     play(call, args, rec, s, log, &mut out[..n], buf, text)
 }
@@ -121,8 +96,8 @@ fn call(s: Session, log: &mut [u32], buf: &mut [u8], text: &mut [u8]) -> Session
     requires { ⌜ length (now log) ≤ 8192 ⌝ }
     requires { ⌜ 73917 ≤ length (now text) ⌝ }
 {
-    let mut args = zero_bytes();
-    let mut rec = recording_words();
+    let mut args = cyw43_lines::room::zero_bytes();
+    let mut rec = cyw43_lines::room::recording_words();
     let next = cyw43_lines::input::read_call(&mut args, &mut rec);
     match next {
         Next::Nothing => bad(s),
@@ -137,7 +112,7 @@ fn call(s: Session, log: &mut [u32], buf: &mut [u8], text: &mut [u8]) -> Session
 fn turn(s: Session, buf: &mut [u8], text: &mut [u8]) -> Session
     requires { ⌜ 73917 ≤ length (now text) ⌝ }
 {
-    let mut log = log_words();
+    let mut log = cyw43_lines::room::log_words();
     let w = cyw43_lines::input::read_word();
     match w {
         Word::End => ended(s),
@@ -161,8 +136,8 @@ fn turn(s: Session, buf: &mut [u8], text: &mut [u8]) -> Session
 
 // Turns are counted down from a number that no run uses up.
 fn main() {
-    let mut buf = zero_bytes();
-    let mut text = line_bytes();
+    let mut buf = cyw43_lines::room::zero_bytes();
+    let mut text = cyw43_lines::room::line_bytes();
     let mut s = fresh();
     let mut turns = u64::MAX;
     while s.going && turns > 0 {

@@ -56,10 +56,10 @@ array-borrow-prefix-log : tie.Need-array-borrow-prefix-log
 array-borrow-prefix-log c = search needs
 
 slice-aggregate-call : tie.Need-slice-aggregate-call
-slice-aggregate-call c = simp length-take (omega (arith, c .before .before .before .before .before .before .before .before .log-words .ensures))
+slice-aggregate-call c = simp length-take (omega (arith, c .before .before .before .before .before .before .before .before .log-words .ensures .1))
 
 call-requires : tie.Need-call-requires
-call-requires c κs = (simp length-take (omega (arith, c .before .before .before .before .before .before .before .before .before .before .log-words .ensures)), c .before .before .before .before .before .before .before .before .before .before .before .before .before .pre)
+call-requires c κs = (simp length-take (omega (arith, c .before .before .before .before .before .before .before .before .before .before .log-words .ensures .1)), c .before .before .before .before .before .before .before .before .before .before .before .before .before .pre)
 
 returns-4 : tie.Need-returns-4
 returns-4 c = search needs
