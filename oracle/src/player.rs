@@ -9,6 +9,8 @@ use crate::{
 };
 
 pub const LOG: usize = 8192;
+/// In a session file: a fresh state, list and buffer.
+pub const ANEW: u32 = 0xd000_0000;
 const ARGUMENTS: usize = 2048;
 const RECORDING: usize = 4096;
 const OUTPUT: u32 = 2048;
@@ -90,6 +92,8 @@ pub enum Print {
     Full,
     /// The same with the buffer's FNV-1a hash.
     Hashed,
+    /// The same as numbers on one line, as the observer prints it.
+    Numbers,
 }
 
 /// What the player prints for one call.
@@ -165,28 +169,80 @@ pub fn full_lines(result: &CallResult, oracle: &Oracle, out: &[u8], print: Print
     text
 }
 
+fn sum(start: u64, numbers: impl IntoIterator<Item = u64>) -> u64 {
+    numbers.into_iter().fold(start, |h, n| (h * 4099 + n + 1) % 281_474_976_710_597)
+}
+
+fn sum_bytes(start: u64, bytes: &[u8]) -> u64 {
+    sum(start, bytes.iter().map(|&b| b.into()))
+}
+
+fn failure_numbers(f: Option<Failure>) -> [u64; 3] {
+    f.map_or([0; 3], |f| [u64::from(f.kind) + 1, f.status.into(), f.reason.into()])
+}
+
+/// The further line of `--numbers`: mark, scan marks, auth; reply; frame; failure; tick; the
+/// failure reported; count and sum of the scan list; sums of work buffer and output. What is
+/// not there is zeros; what is, 1 (a failure: its place from 1) and its numbers.
+pub fn number_line(result: &CallResult, oracle: &Oracle, out: &[u8]) -> String {
+    let s = oracle.state();
+    let mut numbers: Vec<u64> = vec![
+        s.had_successful_packet.into(),
+        s.scan_done.into(),
+        s.scan_in_progress.into(),
+        s.current_auth.into(),
+    ];
+    numbers.extend(s.pending_ioctl_resp.map_or([0; 4], |r| {
+        [1, r.offset as u64, r.len as u64, u64::from(r.status as u32)]
+    }));
+    numbers.extend(s.pending_rx.map_or([0; 3], |b| [1, b.offset as u64, b.len as u64]));
+    numbers.extend(failure_numbers(s.connect_failure));
+    numbers.extend(s.disconnect_started_tick.map_or([0; 2], |t| [1, t]));
+    numbers.extend(failure_numbers(result.failure));
+    let records = oracle.records();
+    numbers.push(records.len() as u64);
+    numbers.push(records.iter().fold(0, |h, r| {
+        let rest = [r.ssid_len as u64, r.channel.into(), u64::from(r.rssi as u16)];
+        sum(sum_bytes(sum_bytes(h, &r.ssid), &r.bssid), rest)
+    }));
+    numbers.extend([sum_bytes(0, oracle.buffer()), sum_bytes(0, out)]);
+    let mut text = String::new();
+    for n in numbers {
+        write!(text, "{n} ").unwrap();
+    }
+    text + "\n"
+}
+
 /// All that the player prints for an input. With `capacities`, one word 0xE0000000 + log
-/// capacity stands before each call, as in a session file.
+/// capacity stands before each call, as in a session file, and `ANEW` begins another session.
+/// A panic ends the session.
 pub fn play(input: &[u8], print: Print, capacities: bool) -> String {
     let mut oracle = Oracle::new();
     let mut input = Input(input);
     let mut text = String::new();
     while !input.is_empty() {
-        let capacity = match capacities {
-            true => input.word().and_then(|w| w.checked_sub(0xe000_0000)).map(|n| n as usize),
-            false => Some(LOG),
-        };
-        let Some((capacity, played)) = capacity.zip(input.call()) else {
+        let mut capacity = Some(LOG);
+        if capacities {
+            let word = input.word();
+            if word == Some(ANEW) {
+                oracle = Oracle::new();
+                continue;
+            }
+            capacity = word.and_then(|w| w.checked_sub(0xe000_0000)).map(|n| n as usize);
+        }
+        let Some((capacity, played)) = capacity.filter(|&n| n <= LOG).zip(input.call()) else {
             text += "bad\n";
             break;
         };
         let mut out = vec![0; played.output()];
         let result = oracle.call(played.call, &played.args, &played.recording, capacity, &mut out);
         text += &lines(played.call, &result, &oracle);
-        if print != Print::Plain {
-            text += &full_lines(&result, &oracle, &out, print);
+        match print {
+            Print::Plain => {}
+            Print::Numbers => text += &number_line(&result, &oracle, &out),
+            _ => text += &full_lines(&result, &oracle, &out, print),
         }
-        if result.panic.is_some() {
+        if result.panic.is_some() && !input.0.starts_with(&ANEW.to_le_bytes()) {
             break;
         }
     }

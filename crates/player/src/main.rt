@@ -1,19 +1,16 @@
 // The player: reads calls from standard input, plays each on the driver and prints its lines.
-mod calls;
-mod input;
-mod text;
 
+use cyw43_lines::input::Next;
 use cyw43_types::scan::ScanList;
 use cyw43_types::state::State;
-use input::Next;
 ghost use mathlib.Core.Path.{_≡_};
 ghost use Prim.Native.Nat.{_≤_};
-ghost use lib.ListN.{length, replicate};
+ghost use lib.ListN.{length};
 ghost use Rattle.cyw43_definition.specs.Prog.{world};
 ghost use Rattle.cyw43_definition.specs.Player.{lineOf};
-ghost use Rattle.player.specs.Input.{outputLength};
-ghost use Rattle.player.specs.Play.{callEnd, worldAfter, Fronts};
-ghost use Rattle.player.specs.Text.{textOf};
+ghost use Rattle.cyw43_lines.specs.Input.{outputLength};
+ghost use Rattle.cyw43_lines.specs.Text.{textOf};
+ghost use Rattle.cyw43_player.specs.Play.{callEnd, worldAfter, Fronts};
 
 // What passes from call to call beside the work buffer.
 struct Session {
@@ -28,36 +25,6 @@ fn ended(s: Session) -> Session {
     t
 }
 
-// An empty log.
-fn log_words() -> [u32; 8192]
-    ensures { λ r. ⌜ r ≡ replicate 8192 0 ⌝ }
-    ensures { λ r. ⌜ 8192 ≡ length r ⌝ }
-{
-    [0; 8192]
-}
-
-// Zeros: the work buffer at first, an output's room, and that of the arguments.
-fn zero_bytes() -> [u8; 2048]
-    ensures { λ r. ⌜ r ≡ replicate 2048 0 ⌝ }
-    ensures { λ r. ⌜ 2048 ≡ length r ⌝ }
-{
-    [0; 2048]
-}
-
-// Room for a recording.
-fn recording_words() -> [u32; 4096]
-    ensures { λ r. ⌜ 4096 ≡ length r ⌝ }
-{
-    [0; 4096]
-}
-
-// Room for the lines of a call: nine numbers of at most 20 digits, and 8,192 words.
-fn line_bytes() -> [u8; 73917]
-    ensures { λ r. ⌜ 73917 ≡ length r ⌝ }
-{
-    [0; 73917]
-}
-
 // Plays one call, prints its lines, and goes on if they were written.
 fn play(call: u32, args: &[u8], rec: &[u32], s: Session, buf: &mut [u8], text: &mut [u8]) -> Session
     requires { ⌜ outputLength call (now args) ≤ 2048 ⌝ }
@@ -65,13 +32,13 @@ fn play(call: u32, args: &[u8], rec: &[u32], s: Session, buf: &mut [u8], text: &
     ensures { λ r. ⌜ world (r .st) (now (buf .exit)) (r .list) ≡ worldAfter (callEnd (world (s .st) (now (buf .entry)) (s .list)) (now (rec .entry)) call (now (args .entry))) ⌝ }
     ensures { λ _. ⌜ Fronts (textOf (lineOf call (callEnd (world (s .st) (now (buf .entry)) (s .list)) (now (rec .entry)) call (now (args .entry))))) (now (text .exit)) ⌝ }
 {
-    let mut log = log_words();
-    let mut out = zero_bytes();
+    let mut log = cyw43_lines::room::log_words();
+    let mut out = cyw43_lines::room::zero_bytes();
     let st = s.st;
     let list = s.list;
-    let n = input::output_length(call, args);
-    let e = calls::play_call(call, args, st, list, rec, &mut log, buf, &mut out[..n]);
-    let k = text::put_lines(text, call, e, &log);
+    let n = cyw43_lines::input::output_length(call, args);
+    let e = cyw43_player::calls::play_call(call, args, st, list, rec, &mut log, buf, &mut out[..n]);
+    let k = cyw43_lines::text::put_lines(text, call, e, &log);
     let going = io::write_all(1, &text[..k]);
     let after = e.st;
     let heard = e.list;
@@ -86,9 +53,9 @@ fn play(call: u32, args: &[u8], rec: &[u32], s: Session, buf: &mut [u8], text: &
 fn turn(s: Session, buf: &mut [u8], text: &mut [u8]) -> Session
     requires { ⌜ 73917 ≤ length (now text) ⌝ }
 {
-    let mut args = zero_bytes();
-    let mut rec = recording_words();
-    let next = input::read_call(&mut args, &mut rec);
+    let mut args = cyw43_lines::room::zero_bytes();
+    let mut rec = cyw43_lines::room::recording_words();
+    let next = cyw43_lines::input::read_call(&mut args, &mut rec);
     match next {
         Next::Nothing => ended(s),
         Next::Bad => {
@@ -101,8 +68,8 @@ fn turn(s: Session, buf: &mut [u8], text: &mut [u8]) -> Session
 
 // A loop has to end, and nothing says that the input does: turns are counted down from a number that no run uses up.
 fn main() {
-    let mut buf = zero_bytes();
-    let mut text = line_bytes();
+    let mut buf = cyw43_lines::room::zero_bytes();
+    let mut text = cyw43_lines::room::line_bytes();
     let mut s = Session {
         st: cyw43::fresh::fresh_state(),
         list: cyw43::fresh::fresh_list(),

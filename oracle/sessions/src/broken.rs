@@ -22,7 +22,11 @@ pub fn spoil(rng: &mut Rng, words: &mut Vec<u32>) -> bool {
             true
         }
         _ => {
-            *words = vec![0x7000_0000 | rng.range(10, 15) as u32];
+            let place = match rng.percent(50) {
+                true => rng.range(10, 15) as u32,
+                false => rng.below(10) as u32 | 1 << rng.range(4, 27),
+            };
+            *words = vec![0x7000_0000 | place];
             false
         }
     }
@@ -47,7 +51,7 @@ fn other_kind(rng: &mut Rng) -> Vec<u32> {
 fn bad_bit(rng: &mut Rng, words: &mut [u32]) {
     let bit = match words[0] >> 28 {
         1 => rng.range(16, 27),
-        3 => rng.pick(&[0, 1, 2, 8, 16, 20, 27]),
+        3 => rng.pick(&[0, 1, 2, 3, 8, 16, 20, 24, 27]),
         _ => rng.below(28),
     };
     words[0] ^= 1 << bit;

@@ -127,20 +127,31 @@ impl Counts {
     }
 }
 
+/// How often each refusal came.
+fn numbers(f: &mut fmt::Formatter<'_>, of: impl Iterator<Item = (u32, u64)>) -> fmt::Result {
+    for (refusal, n) in of {
+        match refusal {
+            PANIC => write!(f, " panic={n}")?,
+            r => write!(f, " {r}={n}")?,
+        }
+    }
+    writeln!(f)
+}
+
 impl fmt::Display for Counts {
     fn fmt(&self, f: &mut fmt::Formatter<'_>) -> fmt::Result {
         writeln!(f, "sessions {}, calls {}", self.sessions, self.calls())?;
+        let mut sums = BTreeMap::<u32, u64>::new();
+        for ((_, refusal), n) in &self.refusals {
+            *sums.entry(*refusal).or_default() += n;
+        }
+        write!(f, "refusals")?;
+        numbers(f, sums.iter().map(|(&refusal, &n)| (refusal, n)))?;
         for call in 1..=14 {
             let of = self.refusals.iter().filter(|((c, _), _)| *c == call);
             let all: u64 = of.clone().map(|(_, n)| n).sum();
             write!(f, "call {call:2} {:8} {all:8}:", NAMES[call as usize])?;
-            for ((_, refusal), n) in of {
-                match *refusal {
-                    PANIC => write!(f, " panic={n}")?,
-                    r => write!(f, " {r}={n}")?,
-                }
-            }
-            writeln!(f)?;
+            numbers(f, of.map(|(&(_, refusal), &n)| (refusal, n)))?;
         }
         writeln!(f, "poll values {:?}", self.polled)?;
         writeln!(f, "states after a call {:?}", self.states)?;

@@ -1,5 +1,6 @@
 //! A radio and a board that answer a call's operations, mostly as real ones would.
 
+use cyw43_oracle::state::State;
 use tape::{Source, Wish};
 
 use crate::{
@@ -31,7 +32,7 @@ pub struct Device {
     tick: u64,
     /// The clock where the wait under way began.
     began: Option<u64>,
-    /// The tick that a leave or abort took last.
+    /// The tick that a disconnect under way began at.
     left: u64,
     queued: Option<Incoming>,
     /// Statuses left of a run, and whether it is one of 0xffffffff.
@@ -78,15 +79,16 @@ impl Device {
         }
     }
 
-    /// A new call begins, in a driver with this sequence, credit and id.
-    pub fn begin(&mut self, call: u32, sequence: u8, credit: u8, id: u8) {
+    /// A new call begins, in a driver of this state.
+    pub fn begin(&mut self, call: u32, state: &State) {
         self.call = call;
+        self.left = state.disconnect_started_tick.unwrap_or(self.tick);
         self.beyond = false;
         self.faulty = false;
         self.writing = call != 6;
-        self.view.sequence = sequence;
-        self.view.credit = credit;
-        self.view.id = id;
+        self.view.sequence = state.packet_tx_seq;
+        self.view.credit = state.last_bus_data_credit;
+        self.view.id = state.requested_ioctl_id;
         self.view.awaited = None;
         self.began = None;
         self.queued = None;
@@ -211,7 +213,6 @@ impl Device {
             now = self.left.wrapping_add(self.rng.pick(&[0, 998, 999, 1000, 1001, 5000, u64::MAX]));
         }
         self.tick = now;
-        self.left = now;
         now
     }
 

@@ -61,12 +61,7 @@ pub fn generate_on(
         let capacity = capacity(&mut rng, &temper);
         let mut played = Played { call, args, recording: Vec::new() };
         let mut out = vec![0; played.output()];
-        device.borrow_mut().begin(
-            call,
-            state.packet_tx_seq,
-            state.last_bus_data_credit,
-            state.requested_ioctl_id,
-        );
+        device.borrow_mut().begin(call, &state);
         let (result, recording) =
             oracle.call_live(call, &played.args, device.clone(), capacity, &mut out);
         played.recording = recording;

@@ -118,9 +118,10 @@ fn event(rng: &mut Rng, crowded: bool, lies: bool) -> (Header, Vec<u8>) {
     if rng.percent(50) {
         body = rng.bytes(172);
     }
-    let kind = match rng.weighted(&[30, if crowded { 300 } else { 10 }, 1]) {
+    let kind = match rng.weighted(&[30, if crowded { 300 } else { 10 }, 5, 1]) {
         0 => rng.pick(&EVENTS),
         1 => 69,
+        2 => rng.below(101) as u32,
         _ => rng.word(),
     };
     let status = match (kind, rng.weighted(&[5, 3])) {

@@ -108,9 +108,10 @@ fn join(rng: &mut Rng) -> Vec<u8> {
 
 /// Name, zero and data, at times at the limits.
 fn variable(rng: &mut Rng) -> Vec<u8> {
-    let whole = match rng.weighted(&[5, 1, 4]) {
+    let whole = match rng.weighted(&[10, 2, 1, 8]) {
         0 => rng.range(1, 80),
         1 => rng.range(1700, 2012),
+        2 => rng.range(2005, 2044),
         _ => rng.pick(&[
             1, 1777, 1778, 1779, 2008, 2009, 2011, 2012, 2013, 2016, 2017, 2020, 2021, 2044,
         ]),

@@ -1,4 +1,4 @@
-//! oracle-player [--full | --hash] [--session]: plays standard input on the Rust driver.
+//! oracle-player [--full | --hash | --numbers] [--session]: plays standard input on the Rust driver.
 
 use std::io::{Read, Write, stdin, stdout};
 
@@ -11,9 +11,10 @@ fn main() {
         match arg.as_str() {
             "--full" => print = Print::Full,
             "--hash" => print = Print::Hashed,
+            "--numbers" => print = Print::Numbers,
             "--session" => session = true,
             _ => {
-                eprintln!("usage: oracle-player [--full | --hash] [--session] < input");
+                eprintln!("usage: oracle-player [--full | --hash | --numbers] [--session] < input");
                 std::process::exit(2);
             }
         }

@@ -1,9 +1,9 @@
 use Rattle.cyw43_definition.specs.Prog.{world}
 use mathlib.Core.List.{[]}
-use Rattle.player.proofs.Plays.{carried, shows}
+use Rattle.cyw43_player.proofs.Plays.{carried, shows}
 use native.Mathlib.Omega.{arith}
 use lib.ListN.{length-take}
-use Rattle.player.proofs.Arguments.{output-zeros}
+use Rattle.cyw43_player.proofs.Arguments.{output-zeros}
 use borrow.Author.Needs.{needs}
 use Rattle.player.proofs.play.Statement.{statement}
 use Rattle.player.proofs.play.Tie as tie

@@ -3,7 +3,7 @@ use mathlib.Core.Path.{sym}
 use native.Mathlib.Omega.{arith}
 use lib.ListN.{length}
 use lib.Seq.{length-take-le}
-use Rattle.player.proofs.Read.{fits}
+use Rattle.cyw43_lines.proofs.Read.{fits}
 use borrow.Author.Needs.{needs}
 use Rattle.player.proofs.turn.Statement.{statement}
 use Rattle.player.proofs.turn.Tie as tie

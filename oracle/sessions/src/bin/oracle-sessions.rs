@@ -1,27 +1,31 @@
-//! oracle-sessions --seed S --count N [--write FOLDER] [--lines]: makes N sessions, runs
-//! them on the oracle twice (answers made as asked for, then played from the recording)
-//! and prints what they reached. FOLDER gets two files for each seed: the session with its
-//! log capacities, and the player's input.
+//! oracle-sessions --seed S --count N [--write FOLDER] [--together FILE] [--lines]: makes N
+//! sessions, runs them on the oracle twice (answers made as asked for, then played from the
+//! recording) and prints what they reached. FOLDER gets two files for each seed: the session
+//! with its log capacities, and the player's input. FILE gets all sessions, each after the
+//! word that begins a session.
 
-use std::{collections::BTreeMap, fs, path::PathBuf, process::exit};
+use std::{collections::BTreeMap, fs, io::Write, path::PathBuf, process::exit};
 
-use cyw43_oracle::{CallResult, Oracle};
+use cyw43_oracle::{CallResult, Oracle, player::ANEW};
 use sessions::{Session, Step, counts::Counts, generate, shrink};
 
 struct Options {
     seed: u64,
     count: u64,
     write: Option<PathBuf>,
+    together: Option<PathBuf>,
     lines: bool,
 }
 
 fn usage() -> ! {
-    eprintln!("usage: oracle-sessions --seed S --count N [--write FOLDER] [--lines]");
+    eprintln!(
+        "usage: oracle-sessions --seed S --count N [--write FOLDER] [--together FILE] [--lines]"
+    );
     exit(2)
 }
 
 fn options() -> Options {
-    let mut options = Options { seed: 1, count: 100, write: None, lines: false };
+    let mut options = Options { seed: 1, count: 100, write: None, together: None, lines: false };
     let mut args = std::env::args().skip(1);
     while let Some(arg) = args.next() {
         let mut value = || args.next().unwrap_or_else(|| usage());
@@ -29,6 +33,7 @@ fn options() -> Options {
             "--seed" => options.seed = value().parse().unwrap_or_else(|_| usage()),
             "--count" => options.count = value().parse().unwrap_or_else(|_| usage()),
             "--write" => options.write = Some(value().into()),
+            "--together" => options.together = Some(value().into()),
             "--lines" => options.lines = true,
             _ => usage(),
         }
@@ -51,6 +56,8 @@ fn main() {
     let mut counts = Counts::default();
     let mut lines = BTreeMap::<&str, u64>::new();
     let mut panics = BTreeMap::<String, (u64, u64, Session)>::new();
+
+    let mut together = options.together.map(|path| fs::File::create(path).expect("file"));
 
     for seed in options.seed..options.seed + options.count {
         counts.begin();
@@ -80,6 +87,10 @@ fn main() {
             fs::create_dir_all(folder).expect("folder");
             fs::write(folder.join(format!("{seed}.session")), session.file()).expect("file");
             fs::write(folder.join(format!("{seed}.input")), session.input()).expect("file");
+        }
+        if let Some(file) = &mut together {
+            file.write_all(&ANEW.to_le_bytes()).expect("file");
+            file.write_all(&session.file()).expect("file");
         }
     }
 

@@ -1,0 +1,3 @@
+// What a call leaves, as numbers: the observer prints them.
+pub mod show;
+pub mod sum;

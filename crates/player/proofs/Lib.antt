@@ -1,4 +1,0 @@
-pub mod Arguments
-pub mod Plays
-pub mod Read
-pub mod Texts
