@@ -1,7 +1,7 @@
 // A call's further line.
-use cyw43_turn::standing::CallEnd;
 use cyw43_shown::show;
 use cyw43_shown::sum;
+use cyw43_turn::standing::CallEnd;
 use cyw43_types::scan::ScanList;
 use cyw43_types::state::State;
 
