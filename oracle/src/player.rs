@@ -192,9 +192,10 @@ pub fn number_line(result: &CallResult, oracle: &Oracle, out: &[u8]) -> String {
         s.scan_in_progress.into(),
         s.current_auth.into(),
     ];
-    numbers.extend(s.pending_ioctl_resp.map_or([0; 4], |r| {
-        [1, r.offset as u64, r.len as u64, u64::from(r.status as u32)]
-    }));
+    numbers.extend(
+        s.pending_ioctl_resp
+            .map_or([0; 4], |r| [1, r.offset as u64, r.len as u64, u64::from(r.status as u32)]),
+    );
     numbers.extend(s.pending_rx.map_or([0; 3], |b| [1, b.offset as u64, b.len as u64]));
     numbers.extend(failure_numbers(s.connect_failure));
     numbers.extend(s.disconnect_started_tick.map_or([0; 2], |t| [1, t]));

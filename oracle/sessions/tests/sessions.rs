@@ -2,7 +2,7 @@
 
 use cyw43_oracle::{
     Oracle,
-    player::{Print, play},
+    player::{ANEW, Print, play},
 };
 use sessions::{Session, generate};
 
@@ -42,4 +42,17 @@ fn the_player_takes_them() {
         assert!(!play(&session.input(), Print::Plain, false).ends_with("bad\n"), "seed {seed}");
         assert!(!play(&session.file(), Print::Hashed, true).ends_with("bad\n"), "seed {seed}");
     }
+}
+
+/// Sessions that stand one after the other leave what each leaves alone.
+#[test]
+fn one_after_the_other() {
+    let (mut together, mut alone) = (Vec::new(), String::new());
+    for seed in 0..50 {
+        let file = generate(seed, &mut |_, _, _| {}).file();
+        together.extend(ANEW.to_le_bytes());
+        together.extend(&file);
+        alone += &play(&file, Print::Numbers, true);
+    }
+    assert!(play(&together, Print::Numbers, true) == alone);
 }
