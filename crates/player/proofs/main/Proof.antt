@@ -1,8 +1,8 @@
 use mathlib.Core.Path.{_≡_}
 use native.Mathlib.Omega.{arith}
 use lib.ListN.{length}
-use borrow.Author.Tests.{ltb-true}
 use borrow.Author.Needs.{needs}
+use borrow.Author.Tests.{ltb-true}
 use Rattle.player.proofs.main.Statement.{statement}
 use Rattle.player.proofs.main.Tie as tie
 
@@ -18,11 +18,8 @@ zero-bytes-requires c κs = search needs
 line-bytes-requires : tie.Need-line-bytes-requires Inv-loop μ-loop
 line-bytes-requires c κs = search needs
 
-fresh-state-requires : tie.Need-fresh-state-requires Inv-loop μ-loop
-fresh-state-requires c κs = search needs
-
-fresh-list-requires : tie.Need-fresh-list-requires Inv-loop μ-loop
-fresh-list-requires c κs = search needs
+fresh-requires : tie.Need-fresh-requires Inv-loop μ-loop
+fresh-requires c κs = search needs
 
 loop-holds : tie.Need-loop-holds Inv-loop μ-loop
 loop-holds c = search needs
@@ -59,8 +56,7 @@ main-spec =
     μ-loop
     zero-bytes-requires
     line-bytes-requires
-    fresh-state-requires
-    fresh-list-requires
+    fresh-requires
     loop-holds
     slice-aggregate-turn
     slice-aggregate-turn-2

@@ -3,8 +3,8 @@ use native.Mathlib.Omega.{arith}
 use lib.ListN.{length-take}
 use Rattle.cyw43_player.specs.Play.{worldAfter}
 use borrow.Author.Needs.{needs}
-use Rattle.observer.proofs.play.Statement.{statement}
-use Rattle.observer.proofs.play.Tie as tie
+use Rattle.cyw43_observed.proofs.play.Statement.{statement}
+use Rattle.cyw43_observed.proofs.play.Tie as tie
 
 play-call-requires : tie.Need-play-call-requires
 play-call-requires c κs = search needs

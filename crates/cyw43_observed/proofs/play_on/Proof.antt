@@ -2,8 +2,8 @@ use native.Mathlib.Omega.{arith}
 use lib.ListN.{length-take}
 use Rattle.cyw43_player.proofs.Arguments.{output-zeros}
 use borrow.Author.Needs.{needs}
-use Rattle.observer.proofs.play_on.Statement.{statement}
-use Rattle.observer.proofs.play_on.Tie as tie
+use Rattle.cyw43_observed.proofs.play_on.Statement.{statement}
+use Rattle.cyw43_observed.proofs.play_on.Tie as tie
 
 zero-bytes-requires : tie.Need-zero-bytes-requires
 zero-bytes-requires c κs = search needs

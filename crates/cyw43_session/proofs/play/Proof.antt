@@ -5,8 +5,8 @@ use native.Mathlib.Omega.{arith}
 use lib.ListN.{length-take}
 use Rattle.cyw43_player.proofs.Arguments.{output-zeros}
 use borrow.Author.Needs.{needs}
-use Rattle.player.proofs.play.Statement.{statement}
-use Rattle.player.proofs.play.Tie as tie
+use Rattle.cyw43_session.proofs.play.Statement.{statement}
+use Rattle.cyw43_session.proofs.play.Tie as tie
 
 log-words-requires : tie.Need-log-words-requires
 log-words-requires c κs = search needs

@@ -5,8 +5,8 @@ use lib.ListN.{length}
 use lib.Seq.{length-take-le}
 use Rattle.cyw43_lines.proofs.Read.{fits}
 use borrow.Author.Needs.{needs}
-use Rattle.observer.proofs.call.Statement.{statement}
-use Rattle.observer.proofs.call.Tie as tie
+use Rattle.cyw43_session.proofs.turn.Statement.{statement}
+use Rattle.cyw43_session.proofs.turn.Tie as tie
 
 count-fits : (c : tie.After-known-told) → c .before .next .given .0 .1 .0 ≤ length (c .before .before .before .before .before .read-call .last .0)
 count-fits c = omega (arith, fits _ _ _ _ _ (c .before .next .given .1) (c .before .before .before .before .before .read-call .ensures) .0, c .before .before .before .before .before .read-call .kept .0, c .before .before .before .before .before .before .before .before .before .zero-bytes .ensures .1)
@@ -32,14 +32,14 @@ read-call-requires c κs = search needs
 enum-told : tie.Need-enum-told
 enum-told c = search needs
 
-bad-requires : tie.Need-bad-requires
-bad-requires c κs = search needs
+ended-requires : tie.Need-ended-requires
+ended-requires c κs = search needs
 
 enum-told-2 : tie.Need-enum-told-2
 enum-told-2 c = search needs
 
-bad-requires-2 : tie.Need-bad-requires-2
-bad-requires-2 c κs = search needs
+bad-requires : tie.Need-bad-requires
+bad-requires c κs = search needs
 
 enum-known-next : tie.Need-enum-known-next
 enum-known-next c = search needs
@@ -47,17 +47,17 @@ enum-known-next c = search needs
 array-share-prefix-args : tie.Need-array-share-prefix-args
 array-share-prefix-args c = count-fits c
 
-slice-aggregate-play-on : tie.Need-slice-aggregate-play-on
-slice-aggregate-play-on c = sym (length-take-le _ _ (count-fits (c .before)))
+slice-aggregate-play : tie.Need-slice-aggregate-play
+slice-aggregate-play c = sym (length-take-le _ _ (count-fits (c .before)))
 
 array-share-prefix-rec : tie.Need-array-share-prefix-rec
 array-share-prefix-rec c = words-fit (c .before)
 
-slice-aggregate-play-on-2 : tie.Need-slice-aggregate-play-on-2
-slice-aggregate-play-on-2 c = sym (length-take-le _ _ (words-fit (c .before .before)))
+slice-aggregate-play-2 : tie.Need-slice-aggregate-play-2
+slice-aggregate-play-2 c = sym (length-take-le _ _ (words-fit (c .before .before)))
 
-play-on-requires : tie.Need-play-on-requires
-play-on-requires c κs = (fits _ _ _ _ _ (c .before .before .before .before .before .before .next .given .1) (c .before .before .before .before .before .before .before .before .before .before .read-call .ensures) .2, (c .before .before .before .before .before .before .before .before .before .before .before .before .before .before .before .before .before .before .pre .0, c .before .before .before .before .before .before .before .before .before .before .before .before .before .before .before .before .before .before .pre .1))
+play-requires : tie.Need-play-requires
+play-requires c κs = (fits _ _ _ _ _ (c .before .before .before .before .before .next .given .1) (c .before .before .before .before .before .before .before .before .before .read-call .ensures) .2, c .before .before .before .before .before .before .before .before .before .before .before .before .before .before .before .before .pre)
 
 returns : tie.Need-returns
 returns c = search needs
@@ -71,14 +71,11 @@ same-length c = search needs
 same-length-2 : tie.Need-same-length-2
 same-length-2 c = search needs
 
-same-length-3 : tie.Need-same-length-3
-same-length-3 c = search needs
-
 returns-3 : tie.Need-returns-3
 returns-3 c = search needs
 
-pub call-spec : {M : Type 1} → statement M
-call-spec =
+pub turn-spec : {M : Type 1} → statement M
+turn-spec =
     tie.close
     (tie.spec
     zero-bytes-requires
@@ -87,18 +84,17 @@ call-spec =
     slice-aggregate-read-call-2
     read-call-requires
     enum-told
-    bad-requires
+    ended-requires
     enum-told-2
-    bad-requires-2
+    bad-requires
     enum-known-next
     array-share-prefix-args
-    slice-aggregate-play-on
+    slice-aggregate-play
     array-share-prefix-rec
-    slice-aggregate-play-on-2
-    play-on-requires
+    slice-aggregate-play-2
+    play-requires
     returns
     returns-2
     same-length
     same-length-2
-    same-length-3
     returns-3)

@@ -1,8 +1,8 @@
 use native.Mathlib.Omega.{arith}
 use lib.ListN.{length-take}
 use borrow.Author.Needs.{needs}
-use Rattle.observer.proofs.turn.Statement.{statement}
-use Rattle.observer.proofs.turn.Tie as tie
+use Rattle.cyw43_observed.proofs.turn.Statement.{statement}
+use Rattle.cyw43_observed.proofs.turn.Tie as tie
 
 log-words-requires : tie.Need-log-words-requires
 log-words-requires c κs = search needs
