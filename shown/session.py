@@ -93,12 +93,17 @@ def input_of(call):
 def played(player, calls):
     """What the player prints of each call."""
     words = [word for call in calls for word in input_of(call)]
-    done = subprocess.run([player], input=bytes_of(words), stdout=subprocess.PIPE, check=True)
-    ends, lines = [], done.stdout.decode().splitlines()
+    try:
+        text = subprocess.run([player], input=bytes_of(words), stdout=subprocess.PIPE, check=True).stdout.decode()
+    except (OSError, subprocess.CalledProcessError):
+        raise Bad("the player does not run") from None
+    ends, lines = [], text.splitlines()
     while lines:
         _, *numbers, length = map(int, lines[0].split())
         ends.append(End(*numbers, [int(word, 16) for word in lines[1 : 1 + length]]))
         lines = lines[1 + length :]
+    if len(ends) != len(calls):
+        raise Bad("the player did not end all calls")
     return ends
 
 

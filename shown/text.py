@@ -19,7 +19,7 @@ def count(n, what):
 def row(data):
     """The bytes in hexadecimal, of a long row the first."""
     shown = " ".join(".." if b is None else f"{b:02x}" for b in data[:SHOWN])
-    return f"{shown} ..., {count(len(data), 'byte')}" if len(data) > SHOWN else shown
+    return f"{shown} and {count(len(data) - SHOWN, 'byte')} more" if len(data) > SHOWN else shown or "nothing"
 
 
 def address(data):
@@ -37,13 +37,11 @@ def quoted(data):
 
 
 def dots(n):
-    return f"{'.' * n} ({count(n, 'byte')})"
+    return f"{'.' * n} ({count(n, 'byte')})" if n else "of no bytes"
 
 
 def values(data):
     """One or two words as numbers, other bytes as a row."""
-    if not data:
-        return "nothing"
     if len(data) not in (4, 8) or None in data:
         return row(data)
     return ", ".join(str(number(data[i : i + 4])) for i in range(0, len(data), 4))
@@ -56,7 +54,7 @@ def duration(nanoseconds):
             whole, rest = divmod(nanoseconds, size)
             decimals = f"{rest:0{len(str(size)) - 1}}".rstrip("0") if rest else ""
             return f"{whole:,}{'.' if decimals else ''}{decimals} {unit}"
-    return "0"
+    return "0 us"
 
 
 def blotted(data, keys):

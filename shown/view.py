@@ -4,6 +4,8 @@ What is not shown: the passphrase in join's arguments; the bytes of a written pa
 packet where join laid the passphrase; once one was laid, the payload of a reply that does not answer the request before it in
 its call, and a value that no shown reply brought; and wherever a passphrase of eight bytes or more stands in other bytes.
 """
+import itertools
+
 from . import arguments, bus, names, packets, session
 from .text import blotted, count
 
@@ -19,10 +21,10 @@ class View:
     def call(self, number, call, end):
         self.asked = None  # the id of the request that was last written in this call, if it is no key's
         self.replies = []  # the payloads that were shown
-        self.places = iter(arguments.key_places(call) if call.number == arguments.JOIN else ())
+        self.places = iter(arguments.key_places(call))
         self.place = None  # of the key in the next written packet
         head = f"{number}. {names.CALLS[call.number]} {arguments.arguments(call, self.keys)}".rstrip()
-        return [f"{head}  [line {call.line}]", *once(self.operations(call, end)), f"    = {self.result(call, end)}"]
+        return [f"{head}  [line {call.line}]", *once(self.operations(call, end)), *self.result(call, end)]
 
     # ---- operations
 
@@ -48,29 +50,27 @@ class View:
         return lines[:1] + ["        " + line for line in lines[1:]]
 
     def waited(self, call, head):
-        if call.number == arguments.JOIN and head == KEY_WAIT:
+        if head == KEY_WAIT and call.number == arguments.JOIN:
             self.laid, self.place = True, next(self.places)
 
     def written(self, call, data):
-        """The packet without its padding, and without the passphrase."""
-        shown = blotted(data[: packets.size_of(data)], self.keys)
-        if self.place is not None:
-            hidden = range(self.place, min(self.place + len(arguments.passphrase(call)), len(shown)))
-            for i in hidden:
-                shown[i] = None
-        self.asked = None if self.place is not None else request_id(shown)
+        """A key packet without the passphrase."""
+        shown, is_key = blotted(data, self.keys), self.place is not None
+        if is_key:
+            end = min(self.place + len(arguments.passphrase(call)), len(shown))
+            shown[self.place : end] = [None] * (end - self.place)
+        ioctl = packets.ioctl_in(data)
+        self.asked = ioctl.id if ioctl and not is_key else None
         self.place = None
-        return packets.packet(shown)
+        return packets.packet(data, shown)
 
     def received(self, data):
-        shown = blotted(data, self.keys)
-        lines = packets.packet(shown, self.reply_shown)
-        payload = reply_payload(shown)
-        if payload is not None and self.reply_shown(request_id(shown)):
-            self.replies.append(payload)
-        return lines
+        shown, ioctl = blotted(data, self.keys), packets.ioctl_in(data)
+        if ioctl and self.payload_shown(ioctl.id):
+            self.replies.append(shown[ioctl.payload_at : packets.size_of(data)])
+        return packets.packet(data, shown, self.payload_shown)
 
-    def reply_shown(self, ident):
+    def payload_shown(self, ident):
         return not self.laid or ident == self.asked
 
     # ---- the result
@@ -78,7 +78,7 @@ class View:
     def result(self, call, end):
         kept = ", as before the call" if end.refusal in names.ROLLED_BACK else ""
         state = f"state {names.named(names.STATES, end.state)}, sequence {end.sequence}, credit {end.credit}"
-        return f"{self.outcome(call, end)}; {state}, flow {end.flow}, id {end.id}{kept}"
+        return [f"    = {self.outcome(call, end)}", f"      {state}, flow {end.flow}, id {end.id}{kept}"]
 
     def outcome(self, call, end):
         if end.refusal:
@@ -100,32 +100,12 @@ class View:
         return text if brought or not self.laid else "a value, not shown: no reply above has it, and a passphrase may lie there"
 
 
-def header_of(packet):
-    """Where the ioctl header of a control packet begins."""
-    whole = len(packet) >= 12 and packets.size_of(packet) is not None and packet[5] & 15 == 0
-    return packet[7] if whole and len(packet) >= packet[7] + 16 else None
-
-
-def request_id(packet):
-    at = header_of(packet)
-    return None if at is None else packets.number(packet[at + 10 : at + 12])
-
-
-def reply_payload(packet):
-    at = header_of(packet)
-    return None if at is None else packet[at + 16 : packets.size_of(packet)]
-
-
 def once(groups):
-    """The lines of each operation; of operations that are alike in a row, the first and how many follow."""
-    lines, last, more = [], None, 0
-    for group in [*groups, None]:
-        if group == last:
-            more += 1
-            continue
-        if more:
-            lines.append(f"        {count(more, 'more')[:-1] if more > 1 else '1 more'} of the same")
-        if group:
-            lines += group
-        last, more = group, 0
+    """The lines of each operation; of three or more that are alike in a row, the first, and how many follow."""
+    lines = []
+    for group, alike in itertools.groupby(groups):
+        more = len(list(alike)) - 1
+        lines += group if more != 1 else group + group
+        if more > 1:
+            lines.append(f"        and {more:,} times more")
     return lines
