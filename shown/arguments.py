@@ -52,15 +52,15 @@ def arguments(call, keys):
 def of_bytes(call, keys):
     first, rest = number(call.args[:4]), blotted(call.args[4:], keys)
     if call.number == JOIN:
-        return f"auth {named(AUTHS, first)}, " + of_join(call, rest[4:], number(call.args[4:8]))
+        return f"auth {named(AUTHS, first)}, {of_join(call, keys)}"
     if call.number == SEND:
         return f"{interface(first)}, frame of {count(len(rest), 'byte')}: {row(rest)}"
     what = variable_text(rest) if 0 in rest else f"{count(len(rest), 'byte')} without a zero after the name"
     return f"{interface(first)}, {what}"
 
 
-def of_join(call, rest, ssid_length):
-    hidden = dots(len(passphrase(call)))
-    if ssid_length > len(rest):
+def of_join(call, keys):
+    end, hidden = 8 + number(call.args[4:8]), dots(len(passphrase(call)))
+    if end > len(call.args):
         return f"the SSID is longer than what is there: {hidden}"
-    return f"SSID {quoted(rest[:ssid_length])}, passphrase {hidden}"
+    return f"SSID {quoted(blotted(call.args[8:end], keys))}, passphrase {hidden}"
