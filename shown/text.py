@@ -44,7 +44,8 @@ def values(data):
     """One or two words as numbers, other bytes as a row."""
     if len(data) not in (4, 8) or None in data:
         return row(data)
-    return ", ".join(str(number(data[i : i + 4])) for i in range(0, len(data), 4))
+    words = (number(data[i : i + 4]) for i in range(0, len(data), 4))
+    return ", ".join(f"{word} (0x{word:08x})" for word in words)
 
 
 def duration(nanoseconds):
