@@ -121,7 +121,7 @@ def operations(log):
 
 
 def answers(recording):
-    """The answers of a recording that are wholly there, and how many words are left of one that is not."""
+    """The answers of a recording that are wholly there."""
     found = []
     while recording:
         kind, low = recording[0] >> 28, recording[0] & 0xFFFF
@@ -130,4 +130,4 @@ def answers(recording):
             break
         found.append(recording[:size])
         recording = recording[size:]
-    return found, len(recording)
+    return found

@@ -30,8 +30,8 @@ class View:
 
     def operations(self, call, end):
         """A list of lines for each operation."""
-        answers, left = session.answers(call.recording)
-        answers = iter(answers)
+        found = session.answers(call.recording)
+        answers, left = iter(found), len(call.recording) - sum(map(len, found))
         shown = [self.operation(call, op, answers, left) for op in session.operations(end.log)]
         unused = sum(1 for _ in answers)
         return shown + ([[f"    {count(unused, 'recorded answer')} not used"]] if unused else [])
