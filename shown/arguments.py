@@ -10,8 +10,8 @@ NUMBERS = {
     1: lambda country: f"country {quoted(country.to_bytes(4, 'little')[:2])}, revision {country >> 16}",
     TAKE: lambda length: f"an output of {count(length, 'byte')}",
     9: lambda pin, level: f"pin {pin}, {'high' if level else 'low'}",
-    11: lambda command, at: f"command {named(COMMANDS, command)}, {interface(at)}",
-    12: lambda command, value, at: f"command {named(COMMANDS, command)}, value {'....' if command == SET_KEY else value}, {interface(at)}",
+    11: lambda command, at: f"{named(COMMANDS, command)}, {interface(at)}",
+    12: lambda command, value, at: f"{named(COMMANDS, command)}, value {'....' if command == SET_KEY else value}, {interface(at)}",
 }
 LENGTHS = {1: 4, TAKE: 4, 9: 8, 11: 8, 12: 12}
 LEAST = {JOIN: 8, SEND: 4, VARIABLE: 4}

@@ -52,12 +52,13 @@ def answer_text(head, answer, left):
 
 
 def other(head, answer):
-    kind = answer[0] >> 28
-    if kind != answers_kind(head):
-        return ANSWERS.get(kind, "a word of no kind")
-    if kind == PACKET and answer[0] >> 16 == PACKET << 12:
+    """What stands in the place of an answer."""
+    kind, asked = answer[0] >> 28, answers_kind(head)
+    if kind == asked == PACKET and answer[0] >> 16 == PACKET << 12:
         return f"a packet of {count(answer[0] & 0xFFFF, 'byte')}"
-    return f"{ANSWERS[kind]} with bits that must be zero"
+    if kind == asked or kind == FAULT and asked not in (CLOCK, TICK):
+        return f"{ANSWERS[kind]} with bits that must be zero"
+    return ANSWERS.get(kind, "a word of no kind")
 
 
 def listed(word, digits, names):
@@ -83,7 +84,7 @@ def time_of(answer):
 VALUES = {
     INTERRUPT: interrupt_text,
     STATUS: status_text,
-    PACKET: lambda answer: "came",
+    PACKET: lambda answer: f"{count(answer[0] & 0xFFFF, 'byte')} came",
     CLOCK: lambda answer: duration(1000 * time_of(answer)),
     TICK: lambda answer: f"{time_of(answer):,}",
     WRITE: lambda answer: "done",

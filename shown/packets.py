@@ -18,13 +18,15 @@ def size_of(data):
     return size if size ^ complement == 0xFFFF else None
 
 
-def packet(data, shown, payload_shown=lambda ident: True):
-    """The lines of a packet. payload_shown: whether a control packet with this id has its payload shown."""
+def packet(data, shown, payload_shown=None):
+    """The lines of a packet. payload_shown: of a received one, whether the payload of a reply with this id is shown."""
     size = size_of(data)
     if len(data) < 12:
-        return [f"no packet: {count(len(data), 'byte')}, and a header has 12"]
+        return ["they are too few for a header, which has 12"]
+    if not any(data[:4]):
+        return ["no packet: size and complement are 0"]
     if size is None:
-        return ["no packet: size and complement are 0" if not any(data[:4]) else "no packet: size and complement do not match"]
+        return ["no packet: size and complement do not match"]
     if size < 12:
         return [f"no packet: its size is {size}, and a header has 12"]
     channel = data[5] & 15
@@ -58,20 +60,23 @@ def control(data, shown, payload_shown):
         return ["ioctl: its header is not there"]
     payload, kind = shown[ioctl.payload_at :], KINDS.get(ioctl.kind, f"kind {ioctl.kind}")
     line = f"ioctl: {kind} {named(COMMANDS, ioctl.command)}, interface {named(INTERFACES, ioctl.interface)}, id {ioctl.id}"
-    return [f"{line}, status {ioctl.status}", payload_text(ioctl.command, payload, payload_shown(ioctl.id))]
+    if payload_shown and payload and not payload_shown(ioctl.id):
+        text = f"payload: {count(len(payload), 'byte')}, not shown: a passphrase may be among them"
+    else:
+        text = payload_text(ioctl.command, payload, payload_shown is not None)
+    return [f"{line}, status {ioctl.status}", text]
 
 
-def payload_text(command, payload, is_shown):
+def payload_text(command, payload, is_reply):
+    """A reply's payload is a value, but those of keys."""
     if not payload:
         return "no payload"
-    if not is_shown:
-        return f"payload: {count(len(payload), 'byte')}, not shown: a passphrase may be among them"
     if command == SET_KEY:
         return "passphrase: " + dots(min(number(payload[:2]), len(payload[4:])))
-    if command == SET_SSID and len(payload) >= 4:
-        return "SSID: " + quoted(payload[4 : 4 + number(payload[:4])])
-    if command in (GET_VAR, SET_VAR) and 0 in payload:
+    if payload[:13] == [*KEY_VARIABLE, 0] or command in (GET_VAR, SET_VAR) and 0 in payload and not is_reply:
         return "variable " + variable_text(payload)
+    if command == SET_SSID and len(payload) >= 4 and not is_reply:
+        return "SSID: " + quoted(payload[4 : 4 + number(payload[:4])])
     return "payload: " + values(payload)
 
 
