@@ -1,5 +1,4 @@
 // A session of the observer: the log's length before each call; the player's lines of each call and then all else that it left.
-mod print;
 
 use cyw43_lines::input::Next;
 use cyw43_lines::input::Word;
@@ -36,8 +35,8 @@ fn play(
     let e = cyw43_player::calls::play_call(call, args, st, list, rec, log, buf, out);
     let k = cyw43_lines::text::put_lines(text, call, e, log);
     let going = io::write_all(1, &text[..k]);
-    print::end(e);
-    print::bytes(buf, out);
+    cyw43_lines::print::end(e);
+    cyw43_lines::print::bytes(buf, out);
     let after = e.st;
     let heard = e.list;
     Session {

@@ -1,8 +1,8 @@
 use Prim.Native.Nat.{_-_, _≤_}
 use lib.ListN.{length}
 use borrow.Author.Needs.{needs}
-use Rattle.cyw43_observed.proofs.print.numbers.Statement.{statement}
-use Rattle.cyw43_observed.proofs.print.numbers.Tie as tie
+use Rattle.cyw43_lines.proofs.print.numbers.Statement.{statement}
+use Rattle.cyw43_lines.proofs.print.numbers.Tie as tie
 
 abbrev Inv-loop : tie.InvT-loop
 Inv-loop ns i₀ i = i ≤ length ns
