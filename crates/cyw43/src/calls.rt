@@ -1,24 +1,24 @@
 // init, scan, join, leave, abort, poll.
-use cyw43_control::Stage;
-use cyw43_inner::begin::scan_start;
-use cyw43_jobs::jobs::exchanges_call;
-use cyw43_jobs::jobs::init_job;
-use cyw43_jobs::jobs::invalid_arg;
-use cyw43_jobs::jobs::no_job;
-use cyw43_jobs::jobs::no_lens;
-use cyw43_jobs::jobs::plain_call;
-use cyw43_jobs::join::connect;
-use cyw43_poll::polling;
-use cyw43_turn::standing::CallEnd;
-use cyw43_types::scan::ScanList;
-use cyw43_types::state::State;
+use control::Stage;
+use inner::begin::scan_start;
+use jobs::jobs::exchanges_call;
+use jobs::jobs::init_job;
+use jobs::jobs::invalid_arg;
+use jobs::jobs::no_job;
+use jobs::jobs::no_lens;
+use jobs::jobs::plain_call;
+use jobs::join::connect;
+use poll::polling;
+use turn::CallEnd;
+use wlan::ScanList;
+use wlan::State;
 ghost use mathlib.Core.Path.{_≡_};
 ghost use mathlib.Core.List.{[]};
 ghost use Prim.Native.Nat.{_<_};
-ghost use Rattle.cyw43_definition.specs.Prog.{world};
-ghost use Rattle.cyw43_definition.specs.Calls.{Call};
-ghost use Rattle.cyw43_definition.specs.Run.{called};
-ghost use Rattle.cyw43_turn.specs.Onward.{endOf};
+ghost use Rattle.definition.specs.Prog.{world};
+ghost use Rattle.definition.specs.Calls.{Call};
+ghost use Rattle.definition.specs.Run.{called};
+ghost use Rattle.turn.specs.Onward.{endOf};
 
 pub fn wifi_init(
     country: u32,

@@ -1,27 +1,27 @@
 // send and take.
-use cyw43_inner::begin::frame_start;
-use cyw43_jobs::jobs::frame_job;
-use cyw43_jobs::jobs::invalid_arg;
-use cyw43_jobs::take::driver_error;
-use cyw43_jobs::take::ended;
-use cyw43_jobs::take::take_frame;
-use cyw43_requests::request::is_interface;
-use cyw43_run::call::call_from;
-use cyw43_turn::standing::CallEnd;
-use cyw43_types::outcome::DriverError;
-use cyw43_types::outcome::Outcome;
-use cyw43_types::outcome::Refusal;
-use cyw43_types::pending::PendingRx;
-use cyw43_types::scan::ScanList;
-use cyw43_types::state::State;
+use inner::begin::frame_start;
+use jobs::jobs::frame_job;
+use jobs::jobs::invalid_arg;
+use jobs::take::driver_error;
+use jobs::take::ended;
+use jobs::take::take_frame;
+use requests::numbers::is_interface;
+use run::call::call_from;
+use turn::CallEnd;
+use wlan::DriverError;
+use wlan::Outcome;
+use wlan::PendingRx;
+use wlan::Refusal;
+use wlan::ScanList;
+use wlan::State;
 ghost use mathlib.Core.Path.{_≡_};
 ghost use mathlib.Core.List.{List, []};
 ghost use Prim.Native.Nat.{ℕ};
 ghost use lib.ListN.{length};
-ghost use Rattle.cyw43_definition.specs.Prog.{world};
-ghost use Rattle.cyw43_definition.specs.Calls.{Call};
-ghost use Rattle.cyw43_definition.specs.Run.{called};
-ghost use Rattle.cyw43_turn.specs.Onward.{endOf};
+ghost use Rattle.definition.specs.Prog.{world};
+ghost use Rattle.definition.specs.Calls.{Call};
+ghost use Rattle.definition.specs.Run.{called};
+ghost use Rattle.turn.specs.Onward.{endOf};
 
 pub fn send_data(
     interface: u32,

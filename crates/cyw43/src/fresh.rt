@@ -1,11 +1,11 @@
 // What the first call finds.
-use cyw43_types::scan::ScanList;
-use cyw43_types::scan::ScanRecord;
-use cyw43_types::state::State;
-use cyw43_types::state::fresh;
+use wlan::ScanList;
+use wlan::ScanRecord;
+use wlan::State;
+use wlan::setters::fresh;
 ghost use mathlib.Core.Path.{_≡_};
-ghost use Rattle.cyw43_types.specs.State as state;
-ghost use Rattle.cyw43_definition.specs.Player.{emptyList};
+ghost use Rattle.wlan.specs.State as state;
+ghost use Rattle.definition.specs.Player.{emptyList};
 
 // What the Rust's `new` gives.
 pub fn fresh_state() -> State

@@ -3,4 +3,4 @@
 pub mod calls;
 pub mod frames;
 pub mod fresh;
-pub mod requests;
+pub mod ioctls;

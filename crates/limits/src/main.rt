@@ -1,10 +1,10 @@
 // The call up, on logs and work buffers of many lengths: 12 and 13 change nothing.
 use cyw43::fresh::fresh_list;
 use cyw43::fresh::fresh_state;
-use cyw43::requests::up;
-use cyw43_turn::standing::CallEnd;
-use cyw43_types::outcome::refusal_of;
-use cyw43_types::sdpcm::Sdpcm;
+use cyw43::ioctls::up;
+use turn::CallEnd;
+use wlan::Sdpcm;
+use wlan::numbers::refusal_of;
 ghost use mathlib.Core.Path.{_≡_};
 ghost use Prim.Native.Nat.{_≤_};
 ghost use lib.ListN.{length};

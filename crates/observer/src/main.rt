@@ -3,12 +3,12 @@
 
 // Turns are counted down from a number that no run uses up.
 fn main() {
-    let mut buf = cyw43_lines::room::zero_bytes();
-    let mut text = cyw43_lines::room::line_bytes();
-    let mut s = cyw43_session::fresh();
+    let mut buf = lines::room::zero_bytes();
+    let mut text = lines::room::line_bytes();
+    let mut s = session::fresh();
     let mut turns = u64::MAX;
     while s.going && turns > 0 {
-        s = cyw43_observed::turn(s, &mut buf, &mut text);
+        s = observed::turn(s, &mut buf, &mut text);
         turns -= 1;
     }
 }

@@ -1,9 +1,9 @@
 use mathlib.Core.Path.{_∙_}
 use mathlib.Core.List.{[]}
-use Rattle.cyw43_definition.specs.Event.{eventOf}
-use Rattle.cyw43_definition.specs.Prog.{world}
-use Rattle.cyw43_definition.specs.Calls.{Call, call}
-use Rattle.cyw43_jobs.proofs.Starts as law
+use Rattle.definition.specs.Event.{eventOf}
+use Rattle.definition.specs.Prog.{world}
+use Rattle.definition.specs.Calls.{Call, call}
+use Rattle.jobs.proofs.Starts as law
 use borrow.Author.Needs.{needs}
 use Rattle.cyw43.proofs.calls.wifi_init.Statement.{statement}
 use Rattle.cyw43.proofs.calls.wifi_init.Tie as tie

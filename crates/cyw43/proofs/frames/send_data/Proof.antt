@@ -3,10 +3,10 @@ use mathlib.Core.List.{[]}
 use Prim.Native.Nat.{_-_}
 use native.Mathlib.Omega.{arith}
 use borrow.Author.Tests.{leb-true, lt-leb}
-use Rattle.cyw43_definition.specs.Event.{eventOf}
-use Rattle.cyw43_definition.specs.Prog.{world}
-use Rattle.cyw43_definition.specs.Calls.{Call, call}
-use Rattle.cyw43_jobs.proofs.Starts as law
+use Rattle.definition.specs.Event.{eventOf}
+use Rattle.definition.specs.Prog.{world}
+use Rattle.definition.specs.Calls.{Call, call}
+use Rattle.jobs.proofs.Starts as law
 use borrow.Author.Needs.{needs}
 use Rattle.cyw43.proofs.frames.send_data.Statement.{statement}
 use Rattle.cyw43.proofs.frames.send_data.Tie as tie

@@ -1,0 +1,45 @@
+use Rattle.byte_calls.proofs.Plays.{played, unlogged, set-is, set-bad}
+use borrow.Author.Needs.{needs}
+use Rattle.byte_calls.proofs.calls.set.Statement.{statement}
+use Rattle.byte_calls.proofs.calls.set.Tie as tie
+
+get-le32-requires : tie.Need-get-le32-requires
+get-le32-requires c κs = search needs
+
+get-le32-requires-2 : tie.Need-get-le32-requires-2
+get-le32-requires-2 c κs = search needs
+
+get-le32-requires-3 : tie.Need-get-le32-requires-3
+get-le32-requires-3 c κs = search needs
+
+set-ioctl-requires : tie.Need-set-ioctl-requires
+set-ioctl-requires c κs = search needs
+
+refused-requires : tie.Need-refused-requires
+refused-requires c κs = search needs
+
+same-length : tie.Need-same-length
+same-length c = search needs
+
+same-length-2 : tie.Need-same-length-2
+same-length-2 c = search needs
+
+returns : tie.Need-returns
+returns c = played _ _ _ _ _ _ _ (set-is _ (c .before .before .before .before .before .before .before .before .before .before .if1 .taken)) (rw (c .before .before .before .before .before .before .before .before .before .get-le32 .ensures, c .before .before .before .before .before .before .before .before .get-le322 .ensures, c .before .before .before .before .before .before .before .get-le323 .ensures) at (c .before .before .before .before .set-ioctl .ensures))
+
+returns-2 : tie.Need-returns-2
+returns-2 c = unlogged _ _ _ _ _ _ _ _ _ _ (set-bad _ (c .before .if1 .left)) (c .refused .ensures _ _ _ _)
+
+pub set-spec : {M : Type 1} → statement M
+set-spec =
+    tie.close
+    (tie.spec
+    get-le32-requires
+    get-le32-requires-2
+    get-le32-requires-3
+    set-ioctl-requires
+    refused-requires
+    same-length
+    same-length-2
+    returns
+    returns-2)

@@ -1,0 +1,113 @@
+// What the player prints of a call, as bytes.
+use turn::CallEnd;
+use wlan::WifiState;
+use wlan::numbers::refusal_of;
+use wlan::numbers::value_of;
+ghost use mathlib.Core.Path.{_≡_};
+ghost use mathlib.Core.List.{List, [], _∷_, _++_};
+ghost use Prim.Native.Nat.{ℕ, _+_, _*_, _≤_};
+ghost use lib.ListN.{length, take};
+ghost use Rattle.slices.specs.Over.{over};
+ghost use Rattle.definition.specs.Player.{stateNumber, lineOf};
+ghost use Rattle.definition.specs.Player.{numbers as Player·numbers};
+ghost use Rattle.turn.specs.Onward.{endOf};
+ghost use Rattle.lines.specs.Text.{decimal, hex, rowOf, wordsOf, textOf};
+
+fn state_number(s: WifiState) -> u64
+    ensures { λ r. ⌜ r ≡ stateNumber s ⌝ }
+{
+    match s {
+        WifiState::Down => 0,
+        WifiState::Connecting => 1,
+        WifiState::Connected => 2,
+        WifiState::Disconnecting => 3,
+    }
+}
+
+// Call, refusal, value, state, sequence, credit, flow, id, log words.
+fn numbers(call: u32, e: CallEnd) -> [u64; 9]
+    ensures { λ r. ⌜ ((log buf out : List ℕ) → r ≡ call ∷ Player·numbers (endOf e log buf out)) ⌝ }
+{
+    let st = e.st;
+    let sdpcm = st.sdpcm;
+    let link = st.link;
+    let state = link.state;
+    let outcome = e.outcome;
+    [
+        call as u64,
+        refusal_of(outcome) as u64,
+        value_of(outcome),
+        state_number(state),
+        sdpcm.packet_tx_seq as u64,
+        sdpcm.last_bus_data_credit as u64,
+        sdpcm.wlan_flow_control as u64,
+        sdpcm.requested_ioctl_id as u64,
+        e.len as u64,
+    ]
+}
+
+// Puts n in base ten, and end after it, into text from index at on; gives the index past them.
+fn put_number(text: &mut [u8], at: usize, n: u64, end: u8) -> usize
+    requires { ⌜ at ≤ 168 ⌝ }
+    ensures { λ _. ⌜ now (text .exit) ≡ over (now (text .entry)) at (decimal n ++ (end ∷ [])) ⌝ }
+    ensures { λ r. ⌜ (r ≡ at + length (decimal n ++ (end ∷ []))) × (r ≤ at + 21) ⌝ }
+{
+    let mut digits = [0u8; 20];
+    let k = io::decimal(n, &mut digits);
+    slices::copy_over(text, at, &digits[..k]);
+    slices::put_byte(text, at + k, end);
+    at + k + 1
+}
+
+// The numbers, one space between, on a line.
+fn put_numbers(text: &mut [u8], numbers: &[u64]) -> usize
+    requires { ⌜ length (now numbers) ≡ 9 ⌝ }
+    ensures { λ _. ⌜ now (text .exit) ≡ over (now (text .entry)) 0 (rowOf (now (numbers .entry))) ⌝ }
+    ensures { λ r. ⌜ (r ≡ length (rowOf (now (numbers .entry)))) × (r ≤ 189) ⌝ }
+{
+    let mut at = 0;
+    let mut i = 0;
+    while i < 8 {
+        at = put_number(text, at, numbers[i], b' ');
+        i += 1;
+    }
+    put_number(text, at, numbers[8], b'\n')
+}
+
+// One word of the log on a line.
+fn put_word(text: &mut [u8], at: usize, w: u32)
+    requires { ⌜ at ≤ 73908 ⌝ }
+    ensures { λ _. ⌜ now (text .exit) ≡ over (now (text .entry)) at (hex w ++ (10 ∷ [])) ⌝ }
+{
+    let mut digits = [0u8; 16];
+    let k = io::hex(w as u64, 8, &mut digits);
+    slices::copy_over(text, at, &digits[..k]);
+    slices::put_byte(text, at + k, b'\n');
+}
+
+fn put_words(text: &mut [u8], at: usize, log: &[u32]) -> usize
+    requires { ⌜ at ≤ 189 ⌝ }
+    requires { ⌜ length (now log) ≤ 8192 ⌝ }
+    ensures { λ _. ⌜ now (text .exit) ≡ over (now (text .entry)) at (wordsOf (now (log .entry))) ⌝ }
+    ensures { λ r. ⌜ r ≡ at + 9 * length (now (log .entry)) ⌝ }
+{
+    let mut i = 0;
+    while i < log.len() {
+        put_word(text, at + 9 * i, log[i]);
+        i += 1;
+    }
+    at + 9 * log.len()
+}
+
+// The lines of a call; gives their length.
+pub fn put_lines(text: &mut [u8], call: u32, e: CallEnd, log: &[u32]) -> usize
+    requires { ⌜ 73917 ≤ length (now text) ⌝ }
+    requires { ⌜ length (now log) ≤ 8192 ⌝ }
+    ensures { λ r. ⌜ ((buf out : List ℕ) → take r (now (text .exit)) ≡ textOf (lineOf call (endOf e (now (log .entry)) buf out))) ⌝ }
+    ensures { λ r. ⌜ r ≤ length (now (text .exit)) ⌝ }
+{
+    let ns = numbers(call, e);
+    let at = put_numbers(text, &ns);
+    let n = slices::fitting(log.len(), 0, e.len);
+    put_words(text, at, &log[..n])
+}

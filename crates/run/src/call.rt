@@ -1,0 +1,146 @@
+// A call from its first step to its end, with roll-back.
+use crate::heard::run_heard;
+use crate::run::run_on;
+use crate::run::touched;
+use control::CallStep;
+use control::Job;
+use effects::arrival::no_event;
+use turn::CallEnd;
+use turn::RunNext;
+use turn::Running;
+use turn::Standing;
+use turn::step::take_step;
+use wlan::Outcome;
+use wlan::Refusal;
+use wlan::ScanList;
+use wlan::State;
+ghost use mathlib.Core.Path.{_≡_};
+ghost use mathlib.Core.Bool.{false};
+ghost use mathlib.Core.List.{List, []};
+ghost use Prim.Native.Nat.{ℕ, _+_, _<_};
+ghost use lib.ListN.{length, drop};
+ghost use Rattle.definition.specs.Event.{eventOf};
+ghost use Rattle.definition.specs.Prog.{World, world, Prog};
+ghost use Rattle.definition.specs.Poll.{Result};
+ghost use Rattle.definition.proofs.Compose.{unroll};
+ghost use Rattle.control.specs.Meaning.{Args, callShown};
+ghost use Rattle.effects.specs.Args.{argsOf};
+ghost use Rattle.turn.specs.Onward as to;
+
+// To the call's end, or to its first step that does something to the scan list.
+fn first_run(
+    s: CallStep,
+    j: Job,
+    first: &[u8],
+    second: &[u8],
+    rec: &[u32],
+    log: &mut [u32],
+    buf: &mut [u8],
+) -> Running
+    requires { ⌜ length (now first) + length (now second) < 60000 ⌝ }
+    ensures on { λ r. ⌜ ((e w : World) → w .buf ≡ now (buf .entry) → to.onward e (argsOf j (now (first .entry)) (now (second .entry))) (now (rec .entry)) r (w .list) (now (log .exit)) (now (buf .exit)) ≡ to.go e (drop 0 (now (rec .entry))) (now (log .entry)) 0 (callShown (argsOf j (now (first .entry)) (now (second .entry))) s (eventOf [] 0) w)) ⌝ }
+    ensures over { λ r. ⌜ to.goesOn r ≡ false ⌝ }
+{
+    let r0 = take_step(s, no_event(), 0, 0, first, second, buf);
+    run_on(r0, j, first, second, rec, log, buf)
+}
+
+// The call began at st, list and saved: 8, 9 and 12 put all back.
+fn wind(
+    at: Standing,
+    next: RunNext,
+    latest: ScanList,
+    st: State,
+    list: ScanList,
+    saved: &[u8],
+    buf: &mut [u8],
+) -> CallEnd
+    requires { ⌜ length (now saved) ≡ length (now buf) ⌝ }
+    requires { ⌜ to.isOn next ≡ false ⌝ }
+    ensures { λ x. ⌜ ((a : Args) (rec log : List ℕ) → to.endOf x log (now (buf .exit)) [] ≡ to.onwardBy (world st (now (saved .entry)) list) a rec at latest log (now (buf .entry)) next) ⌝ }
+{
+    match next {
+        RunNext::At(_) => CallEnd {
+            outcome: Outcome::Refused(Refusal::Unrecorded),
+            st: st,
+            list: list,
+            len: at.len,
+        },
+        RunNext::Over(o) => {
+            let st_now = at.st;
+            CallEnd {
+                outcome: o,
+                st: st_now,
+                list: latest,
+                len: at.len,
+            }
+        }
+        RunNext::Back(c) => {
+            slices::copy_over(buf, 0, saved);
+            CallEnd {
+                outcome: Outcome::Refused(c),
+                st: st,
+                list: list,
+                len: at.len,
+            }
+        }
+    }
+}
+
+// From a step that does something to the scan list on.
+fn heard_from(
+    r: Running,
+    j: Job,
+    first: &[u8],
+    second: &[u8],
+    st: State,
+    list: ScanList,
+    saved: &[u8],
+    rec: &[u32],
+    log: &mut [u32],
+    buf: &mut [u8],
+) -> CallEnd
+    requires { ⌜ length (now first) + length (now second) < 60000 ⌝ }
+    requires { ⌜ length (now saved) ≡ length (now buf) ⌝ }
+    ensures { λ x. ⌜ to.endOf x (now (log .exit)) (now (buf .exit)) [] ≡ to.onward (world st (now (saved .entry)) list) (argsOf j (now (first .entry)) (now (second .entry))) (now (rec .entry)) r list (now (log .entry)) (now (buf .entry)) ⌝ }
+{
+    let w = run_heard(r, list, j, first, second, rec, log, buf);
+    let at = w.at;
+    let next = w.next;
+    let latest = w.list;
+    wind(at, next, latest, st, list, saved, buf)
+}
+
+// s: the call's first step.
+pub fn call_from(
+    s: CallStep,
+    j: Job,
+    first: &[u8],
+    second: &[u8],
+    st: State,
+    list: ScanList,
+    rec: &[u32],
+    log: &mut [u32],
+    buf: &mut [u8],
+) -> CallEnd
+    requires { ⌜ length (now first) + length (now second) < 60000 ⌝ }
+    ensures { λ r. ⌜ ((p : Prog Result) → unroll p ≡ callShown (argsOf j (now (first .entry)) (now (second .entry))) s (eventOf [] 0) (world st (now (buf .entry)) list) → to.endOf r (now (log .exit)) (now (buf .exit)) [] ≡ to.calledBy (world st (now (buf .entry)) list) (now (rec .entry)) (now (log .entry)) p) ⌝ }
+{
+    if buf.len() != 2048 {
+        return CallEnd {
+            outcome: Outcome::Refused(Refusal::BufferLength),
+            st: st,
+            list: list,
+            len: 0,
+        };
+    }
+    let mut saved = [0u8; 2048];
+    slices::copy_over(&mut saved, 0, buf);
+    let r = first_run(s, j, first, second, rec, log, buf);
+    if touched(r) {
+        return heard_from(r, j, first, second, st, list, &saved, rec, log, buf);
+    }
+    let at = r.at;
+    let next = r.next;
+    wind(at, next, list, st, list, &saved, buf)
+}

@@ -1,0 +1,331 @@
+// `sdpcm_send_common`: the stall, the header and the write. Where it waits for the bus, and what it does with an answer.
+ghost use mathlib.Core.Path.{_≡_};
+ghost use Rattle.definition.specs.Send.{elapsed, free};
+ghost use Rattle.send.specs.Send as to;
+use device::Arrival;
+use device::PollNext;
+use device::PollPoint;
+use device::poll_answer;
+use device::poll_op;
+use device::poll_start;
+use events::handle::handle_async_event;
+use sdpcm::header::next_seq;
+use sdpcm::status::f2_ready;
+use wlan::AsyncEvent;
+use wlan::BusAnswer;
+use wlan::BusOp;
+use wlan::DriverError;
+use wlan::PendingBuf;
+use wlan::PendingIoctlResp;
+use wlan::PendingResp;
+use wlan::SdpcmPacket;
+use wlan::State;
+use wlan::setters::set_reply;
+use wlan::setters::with_pending;
+use wlan::setters::with_sdpcm;
+
+// The packet that is sent.
+pub struct OutPacket {
+    pub channel: u8,
+    pub size: u16,
+}
+
+// In a stall; the number is the clock at its start.
+pub enum StallPoint {
+    First,
+    Polling(u64, PollPoint),
+    Late(u64),
+    Waited(u64),
+}
+
+pub enum SendPoint {
+    Stall(StallPoint),
+    // So many status reads are left after this one; then so many bytes are written.
+    Ready(u16, u16),
+    Writing(u16),
+}
+
+// A header that is laid at the front of the work buffer.
+pub enum HeaderPut {
+    None,
+    Header { size: u16, seq: u8, channel: u8 },
+}
+
+pub enum SendNext {
+    Ask(HeaderPut, SendPoint),
+    Sent,
+    Refused(HeaderPut, DriverError),
+}
+
+// heard: the scan list is to hear the event that came.
+pub struct SendStep {
+    pub st: State,
+    pub heard: bool,
+    pub next: SendNext,
+}
+
+fn stall_op(p: StallPoint) -> BusOp
+    ensures { λ r. ⌜ r ≡ to.stallOp p ⌝ }
+{
+    match p {
+        StallPoint::First => BusOp::ReadClock,
+        StallPoint::Polling(_, q) => poll_op(q),
+        StallPoint::Late(_) => BusOp::ReadClock,
+        StallPoint::Waited(_) => BusOp::Wait(100_000),
+    }
+}
+
+// The operation at a point.
+pub fn send_op(p: SendPoint) -> BusOp
+    ensures { λ r. ⌜ r ≡ to.sendOp p ⌝ }
+{
+    match p {
+        SendPoint::Stall(s) => stall_op(s),
+        SendPoint::Ready(_, _) => BusOp::ReadStatus,
+        SendPoint::Writing(n) => BusOp::WritePacket(n),
+    }
+}
+
+fn step(st: State, heard: bool, n: SendNext) -> SendStep
+    ensures { λ r. ⌜ r ≡ to.step st heard n ⌝ }
+{
+    SendStep {
+        st: st,
+        heard: heard,
+        next: n,
+    }
+}
+
+fn ask(st: State, heard: bool, p: SendPoint) -> SendStep
+    ensures { λ r. ⌜ r ≡ to.asks st heard p ⌝ }
+{
+    step(st, heard, SendNext::Ask(HeaderPut::None, p))
+}
+
+fn refuse(st: State, e: DriverError) -> SendStep
+    ensures { λ r. ⌜ r ≡ to.refuses st e ⌝ }
+{
+    step(st, false, SendNext::Refused(HeaderPut::None, e))
+}
+
+pub fn is_free(st: State) -> bool
+    ensures { λ r. ⌜ r ≡ free st ⌝ }
+{
+    let s = st.sdpcm;
+    if s.wlan_flow_control == 0 {
+        s.last_bus_data_credit != s.packet_tx_seq
+    } else {
+        false
+    }
+}
+
+pub fn elapsed_us(start: u64, now: u64) -> u64
+    ensures { λ r. ⌜ r ≡ elapsed start now ⌝ }
+{
+    std::num::wrapping_sub_u64(now, start)
+}
+
+// The header is laid and the sequence number spent; a packet above 2,040 bytes goes no further.
+fn emit(st: State, heard: bool, out: OutPacket) -> SendStep
+    ensures { λ r. ⌜ r ≡ to.emitStep st heard out ⌝ }
+{
+    let s = st.sdpcm;
+    let size = out.size;
+    let put = HeaderPut::Header {
+        size: size,
+        seq: s.packet_tx_seq,
+        channel: out.channel,
+    };
+    let t = with_sdpcm(st, next_seq(s));
+    if 2040 < size {
+        return step(t, heard, SendNext::Refused(put, DriverError::InvalidArg));
+    }
+    step(
+        t,
+        heard,
+        SendNext::Ask(put, SendPoint::Ready(999, (size + 3) / 4 * 4)),
+    )
+}
+
+// After a poll of a stall.
+fn test(st: State, heard: bool, out: OutPacket, t0: u64) -> SendStep
+    ensures { λ r. ⌜ r ≡ to.testStep st heard out t0 ⌝ }
+{
+    if is_free(st) {
+        emit(st, heard, out)
+    } else {
+        ask(st, heard, SendPoint::Stall(StallPoint::Late(t0)))
+    }
+}
+
+pub fn send_start(st: State, out: OutPacket) -> SendStep
+    ensures { λ r. ⌜ r ≡ to.startStep st out ⌝ }
+{
+    if is_free(st) {
+        emit(st, false, out)
+    } else {
+        ask(st, false, SendPoint::Stall(StallPoint::First))
+    }
+}
+
+// A stall polls, from the beginning.
+fn polling(st: State, t0: u64) -> SendStep
+    ensures { λ r. ⌜ r ≡ to.pollingStep st t0 ⌝ }
+{
+    let s = st.sdpcm;
+    ask(
+        st,
+        false,
+        SendPoint::Stall(StallPoint::Polling(t0, poll_start(s))),
+    )
+}
+
+pub fn store_reply(st: State, offset: u16, len: u16, status: i32) -> State
+    ensures { λ r. ⌜ r ≡ to.stored st offset len status ⌝ }
+{
+    let p = st.pending;
+    with_pending(
+        st,
+        set_reply(
+            p,
+            PendingResp::Some(PendingIoctlResp {
+                buf: PendingBuf {
+                    offset: offset,
+                    len: len,
+                },
+                status: status,
+            }),
+        ),
+    )
+}
+
+// A stall's poll brought a packet.
+fn stall_packet(st: State, out: OutPacket, t0: u64, e: AsyncEvent, p: SdpcmPacket) -> SendStep
+    ensures { λ r. ⌜ r ≡ to.packetStep st out t0 e p ⌝ }
+{
+    match p {
+        SdpcmPacket::None => test(st, false, out, t0),
+        SdpcmPacket::Control {
+            offset,
+            len,
+            status,
+        } => polling(store_reply(st, offset, len, status), t0),
+        SdpcmPacket::AsyncEvent { offset: _, len } => {
+            let h = handle_async_event(st, len, e);
+            let s = h.st;
+            test(s, h.heard, out, t0)
+        }
+        SdpcmPacket::Data {
+            offset: _,
+            len: _,
+            interface: _,
+        } => test(st, false, out, t0),
+    }
+}
+
+fn stall_next(st: State, out: OutPacket, t0: u64, e: AsyncEvent, n: PollNext) -> SendStep
+    ensures { λ r. ⌜ r ≡ to.stallNext st out t0 e n ⌝ }
+{
+    match n {
+        PollNext::Ask(q) => ask(st, false, SendPoint::Stall(StallPoint::Polling(t0, q))),
+        PollNext::Got(p) => stall_packet(st, out, t0, e, p),
+        PollNext::Refused(x) => refuse(st, x),
+    }
+}
+
+fn stall_poll(
+    st: State,
+    out: OutPacket,
+    t0: u64,
+    q: PollPoint,
+    x: BusAnswer,
+    a: Arrival,
+) -> SendStep
+    ensures { λ r. ⌜ r ≡ to.stallPoll st out t0 q x a ⌝ }
+{
+    let s = st.sdpcm;
+    let r = poll_answer(s, q, x, a);
+    let t = r.sdpcm;
+    let n = r.next;
+    let e = a.event;
+    stall_next(with_sdpcm(st, t), out, t0, e, n)
+}
+
+fn stall_late(st: State, t0: u64, t: u64) -> SendStep
+    ensures { λ r. ⌜ r ≡ to.lateStep st t0 t ⌝ }
+{
+    if 1_000_000 < elapsed_us(t0, t) {
+        refuse(st, DriverError::Timeout)
+    } else {
+        ask(st, false, SendPoint::Stall(StallPoint::Waited(t0)))
+    }
+}
+
+fn at_first(st: State, x: BusAnswer) -> SendStep
+    ensures { λ r. ⌜ r ≡ to.atFirst st x ⌝ }
+{
+    match x {
+        BusAnswer::Value(t) => polling(st, t),
+        BusAnswer::Fault(p) => refuse(st, DriverError::Fault(p)),
+    }
+}
+
+fn at_late(st: State, t0: u64, x: BusAnswer) -> SendStep
+    ensures { λ r. ⌜ r ≡ to.atLate st t0 x ⌝ }
+{
+    match x {
+        BusAnswer::Value(t) => stall_late(st, t0, t),
+        BusAnswer::Fault(p) => refuse(st, DriverError::Fault(p)),
+    }
+}
+
+fn stall_answer(st: State, out: OutPacket, p: StallPoint, x: BusAnswer, a: Arrival) -> SendStep
+    ensures { λ r. ⌜ r ≡ to.stallAnswer st out p x a ⌝ }
+{
+    match p {
+        StallPoint::First => at_first(st, x),
+        StallPoint::Polling(t0, q) => stall_poll(st, out, t0, q, x, a),
+        StallPoint::Late(t0) => at_late(st, t0, x),
+        StallPoint::Waited(t0) => polling(st, t0),
+    }
+}
+
+fn ready_read(st: State, left: u16, n: u16, v: u32) -> SendStep
+    ensures { λ r. ⌜ r ≡ to.readyStep st left n v ⌝ }
+{
+    if f2_ready(v) {
+        return ask(st, false, SendPoint::Writing(n));
+    }
+    if left == 0 {
+        return refuse(st, DriverError::Timeout);
+    }
+    ask(st, false, SendPoint::Ready(left - 1, n))
+}
+
+fn at_ready(st: State, left: u16, n: u16, x: BusAnswer) -> SendStep
+    ensures { λ r. ⌜ r ≡ to.atReady st left n x ⌝ }
+{
+    match x {
+        BusAnswer::Value(v) => ready_read(st, left, n, (v % 4294967296) as u32),
+        BusAnswer::Fault(p) => refuse(st, DriverError::Fault(p)),
+    }
+}
+
+fn at_writing(st: State, x: BusAnswer) -> SendStep
+    ensures { λ r. ⌜ r ≡ to.atWriting st x ⌝ }
+{
+    match x {
+        BusAnswer::Value(_) => step(st, false, SendNext::Sent),
+        BusAnswer::Fault(p) => refuse(st, DriverError::Fault(p)),
+    }
+}
+
+pub fn send_answer(st: State, out: OutPacket, p: SendPoint, x: BusAnswer, a: Arrival) -> SendStep
+    ensures { λ r. ⌜ r ≡ to.sendAnswer st out p x a ⌝ }
+{
+    match p {
+        SendPoint::Stall(s) => stall_answer(st, out, s, x, a),
+        SendPoint::Ready(left, n) => at_ready(st, left, n, x),
+        SendPoint::Writing(_) => at_writing(st, x),
+    }
+}
