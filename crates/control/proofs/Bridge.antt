@@ -26,7 +26,7 @@ use Rattle.definition.specs.Calls.{settled}
 use Rattle.definition.specs.Event.{released}
 use Rattle.definition.specs.Device.{hadPacket, pollBy, statusRead, statusReads, interruptRead}
 use Rattle.definition.specs.Request as def
-use Rattle.events.specs.Handle.{listHeard, handledOf}
+use Rattle.handling.specs.Handle.{listHeard, handledOf}
 use Rattle.requests.specs.declared.Request.{Request}
 use Rattle.device.specs.Meaning.{opIn, asking, secretly, InRange, landedWorld, Kp, pollTree, pollStepAt, Tells, told, landing}
 use Rattle.device.specs.declared.PollPoint.{PollPoint}

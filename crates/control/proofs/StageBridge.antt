@@ -23,7 +23,7 @@ use Rattle.definition.specs.Ioctl.{laid, nextId, doIoctl, exchange}
 use Rattle.definition.specs.Poll.{Result, giving}
 use Rattle.definition.specs.Join.{isDevError, ignoring, tried, downOnError, linked}
 use Rattle.definition.proofs.Compose.{unroll, bind-assoc, bind-raise, opened}
-use Rattle.events.specs.Handle.{listHeard}
+use Rattle.handling.specs.Handle.{listHeard}
 use Rattle.requests.specs.Request.{requestOf}
 use Rattle.requests.specs.declared.IovarName.{IovarName}
 use Rattle.requests.specs.declared.Request.{Request}

@@ -26,7 +26,7 @@ use Rattle.definition.specs.Poll.{Result, giving, poll, unfailed}
 use Rattle.definition.specs.Join.{tried, security, pmkSet, saeSet, tooLong, lengthTested, ssidSent, connecting, downOnError, joined, ifDown}
 use Rattle.definition.specs.Calls.{initSta, scan, disconnect}
 use Rattle.definition.proofs.Compose.{unroll, followed}
-use Rattle.events.specs.Handle.{listHeard}
+use Rattle.handling.specs.Handle.{listHeard}
 use Rattle.requests.specs.Request.{requestOf}
 use Rattle.send.specs.Send as send
 use Rattle.send.specs.Meaning.{laidHeader, afterFree}

@@ -22,7 +22,7 @@ use Rattle.definition.specs.Ioctl.{doIoctl, exchange}
 use Rattle.definition.specs.Poll.{Result, giving, pollTurn, timedOut, failureReport, polled}
 use Rattle.definition.specs.Join.{isDevError, tried, security, keyLaid, pmkSet, saeSet, downOnError, linked, connecting}
 use Rattle.definition.specs.Calls.{settled, scanning, disconnecting, macIn}
-use Rattle.events.specs.Handle.{listHeard}
+use Rattle.handling.specs.Handle.{listHeard}
 use Rattle.requests.specs.Request.{requestOf}
 use Rattle.device.specs.Meaning.{opIn, asking, told, landing, arrivalAt, Kp}
 use Rattle.send.specs.Meaning.{laidHeader, past, Ks}

@@ -16,7 +16,7 @@ use Rattle.wlan.specs.declared.SdpcmPacket.{SdpcmPacket}
 use Rattle.wlan.specs.declared.State.{State}
 use Rattle.definition.specs.Event.{released}
 use Rattle.definition.specs.Send.{elapsed}
-use Rattle.events.specs.Handle.{handledOf}
+use Rattle.handling.specs.Handle.{handledOf}
 use Rattle.device.specs.declared.Arrival.{Arrival}
 use Rattle.device.specs.declared.PollNext.{PollNext}
 use Rattle.device.specs.declared.PollPoint.{PollPoint}

@@ -1,10 +1,10 @@
 // send and take.
+use ending::take::driver_error;
+use ending::take::ended;
+use ending::take::take_frame;
 use inner::begin::frame_start;
 use jobs::jobs::frame_job;
 use jobs::jobs::invalid_arg;
-use jobs::take::driver_error;
-use jobs::take::ended;
-use jobs::take::take_frame;
 use requests::numbers::is_interface;
 use run::call::call_from;
 use turn::CallEnd;

@@ -7,7 +7,7 @@ use wlan::ScanList;
 use wlan::Success;
 use work_buffer::mac_in;
 ghost use mathlib.Core.Path.{_≡_};
-ghost use Rattle.events.specs.Handle.{listHeard};
+ghost use Rattle.handling.specs.Handle.{listHeard};
 ghost use Rattle.control.specs.Meaning as to;
 
 fn list_heard(heard: bool, e: AsyncEvent, l: ScanList) -> ScanList

@@ -24,7 +24,7 @@ use Rattle.definition.specs.Send.{elapsed, clock, responseOf, sendCommon, until
 use Rattle.definition.specs.Ioctl.{numbered, nextId, isZero, finished, replyTurn, inTime, awaited, reply, doIoctl}
 use Rattle.definition.specs.Poll.{body}
 use Rattle.definition.proofs.Compose.{unroll, bind-assoc, followed, lifted}
-use Rattle.events.specs.Handle.{handledOf, listHeard}
+use Rattle.handling.specs.Handle.{handledOf, listHeard}
 use Rattle.device.specs.declared.PollPoint.{PollPoint}
 use Rattle.device.specs.declared.PollNext.{PollNext}
 use Rattle.device.specs.Poll.{pollOp, pollStart}

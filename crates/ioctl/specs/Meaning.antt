@@ -7,7 +7,7 @@ use Rattle.wlan.specs.declared.AsyncEvent.{AsyncEvent}
 use Rattle.definition.specs.Bus.{Bytes, Place, Ans}
 use Rattle.definition.specs.Prog.{World, world, withBuf, Loop, Prog, ret, stop, loop, M, bind, attempt, turned, valued}
 use Rattle.definition.specs.Ioctl.{finished, replyTurn, inTime, awaited, reply}
-use Rattle.events.specs.Handle.{listHeard}
+use Rattle.handling.specs.Handle.{listHeard}
 use Rattle.device.specs.Meaning.{opIn, asking, told, landing, arrivalAt, Kp}
 use Rattle.send.specs.Meaning.{laidHeader, past, Ks}
 use Rattle.ioctl.specs.declared.IoctlPoint.{IoctlPoint}

@@ -34,7 +34,7 @@ use Rattle.control.specs.Begin.{exchangesStep, scanStart, joinStart, frameStart
 use Rattle.control.specs.Meaning.{Args, lensOf, laidBefore, laidRequest, laidAll, listAt, successOf, callTree, callShown}
 use Rattle.control.proofs.StageBridge.{Modest}
 use Rattle.control.proofs.Start as start
-use Rattle.events.specs.Handle.{listHeard}
+use Rattle.handling.specs.Handle.{listHeard}
 use Rattle.send.specs.Meaning.{laidHeader}
 use Rattle.effects.specs.Args.{argsOf}
 use Rattle.turn.specs.Onward.{calledBy}

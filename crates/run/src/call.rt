@@ -5,10 +5,9 @@ use crate::run::touched;
 use control::CallStep;
 use control::Job;
 use effects::arrival::no_event;
+use ending::wind::wind;
 use turn::CallEnd;
-use turn::RunNext;
 use turn::Running;
-use turn::Standing;
 use turn::step::take_step;
 use wlan::Outcome;
 use wlan::Refusal;
@@ -16,14 +15,14 @@ use wlan::ScanList;
 use wlan::State;
 ghost use mathlib.Core.Path.{_≡_};
 ghost use mathlib.Core.Bool.{false};
-ghost use mathlib.Core.List.{List, []};
-ghost use Prim.Native.Nat.{ℕ, _+_, _<_};
+ghost use mathlib.Core.List.{[]};
+ghost use Prim.Native.Nat.{_+_, _<_};
 ghost use lib.ListN.{length, drop};
 ghost use Rattle.definition.specs.Event.{eventOf};
 ghost use Rattle.definition.specs.Prog.{World, world, Prog};
 ghost use Rattle.definition.specs.Poll.{Result};
 ghost use Rattle.definition.proofs.Compose.{unroll};
-ghost use Rattle.control.specs.Meaning.{Args, callShown};
+ghost use Rattle.control.specs.Meaning.{callShown};
 ghost use Rattle.effects.specs.Args.{argsOf};
 ghost use Rattle.turn.specs.Onward as to;
 
@@ -43,48 +42,6 @@ fn first_run(
 {
     let r0 = take_step(s, no_event(), 0, 0, first, second, buf);
     run_on(r0, j, first, second, rec, log, buf)
-}
-
-// The call began at st, list and saved: 8, 9 and 12 put all back.
-fn wind(
-    at: Standing,
-    next: RunNext,
-    latest: ScanList,
-    st: State,
-    list: ScanList,
-    saved: &[u8],
-    buf: &mut [u8],
-) -> CallEnd
-    requires { ⌜ length (now saved) ≡ length (now buf) ⌝ }
-    requires { ⌜ to.isOn next ≡ false ⌝ }
-    ensures { λ x. ⌜ ((a : Args) (rec log : List ℕ) → to.endOf x log (now (buf .exit)) [] ≡ to.onwardBy (world st (now (saved .entry)) list) a rec at latest log (now (buf .entry)) next) ⌝ }
-{
-    match next {
-        RunNext::At(_) => CallEnd {
-            outcome: Outcome::Refused(Refusal::Unrecorded),
-            st: st,
-            list: list,
-            len: at.len,
-        },
-        RunNext::Over(o) => {
-            let st_now = at.st;
-            CallEnd {
-                outcome: o,
-                st: st_now,
-                list: latest,
-                len: at.len,
-            }
-        }
-        RunNext::Back(c) => {
-            slices::copy_over(buf, 0, saved);
-            CallEnd {
-                outcome: Outcome::Refused(c),
-                st: st,
-                list: list,
-                len: at.len,
-            }
-        }
-    }
 }
 
 // From a step that does something to the scan list on.

@@ -21,8 +21,8 @@ use Rattle.definition.specs.Device.{pollFirst, pollBy, hadPacket}
 use Rattle.definition.specs.Send.{elapsed, clock, free, responseOf, storing, stillStalled, stallTest, stallTurn, stalled, untilFree, untilReady, written, headed, emitted, sendCommon}
 use Rattle.definition.specs.Poll.{first, body}
 use Rattle.definition.proofs.Compose.{unroll, lifted}
-use Rattle.events.specs.declared.Handled.{Handled}
-use Rattle.events.specs.Handle.{stateAfter, handledOf, listHeard}
+use Rattle.handling.specs.declared.Handled.{Handled}
+use Rattle.handling.specs.Handle.{stateAfter, handledOf, listHeard}
 use Rattle.device.specs.declared.PollPoint.{PollPoint}
 use Rattle.device.specs.declared.PollNext.{PollNext}
 use Rattle.device.specs.Poll.{pollOp, pollStart, pollAnswer}

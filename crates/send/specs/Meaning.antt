@@ -12,7 +12,7 @@ use Rattle.definition.specs.Bus.{Bytes, Place, Op, Ans}
 use Rattle.definition.specs.Prog.{World, world, withBuf, Note, Fin, Turn, again, Loop, Prog, ret, stop, loop, note, M, bind, _>>=_, attempt, raise, turned, valued, operate}
 use Rattle.definition.specs.Packet.{header}
 use Rattle.definition.specs.Send.{stillStalled, stallTurn, stalled, headed, emitted, untilReady}
-use Rattle.events.specs.Handle.{listHeard}
+use Rattle.handling.specs.Handle.{listHeard}
 use Rattle.device.specs.Meaning.{opIn, asking, told, landing, arrivalAt, Kp}
 use Rattle.send.specs.declared.OutPacket.{OutPacket}
 use Rattle.send.specs.declared.StallPoint.{StallPoint}

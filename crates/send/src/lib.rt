@@ -8,7 +8,7 @@ use device::PollPoint;
 use device::poll_answer;
 use device::poll_op;
 use device::poll_start;
-use events::handle::handle_async_event;
+use handling::handle::handle_async_event;
 use sdpcm::header::next_seq;
 use sdpcm::status::f2_ready;
 use wlan::AsyncEvent;

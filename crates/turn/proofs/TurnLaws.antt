@@ -28,7 +28,7 @@ use Rattle.bus.specs.declared.Taken.{Taken}
 use Rattle.bus.specs.Op.{opOf, bare}
 use Rattle.bus.specs.Taken.{takenOf}
 use Rattle.bus.proofs.Answers.{restOf, head-at, size-pos, taken-any, taken-bare, taken-unrecorded, taken-wrong, taken-fault, taken-value}
-use Rattle.events.specs.Handle.{listHeard}
+use Rattle.handling.specs.Handle.{listHeard}
 use Rattle.device.specs.Meaning.{secretly, opIn, asking, told, landing, InRange}
 use Rattle.control.specs.declared.CallPoint.{CallPoint}
 use Rattle.control.specs.declared.CallNext.{CallNext}

@@ -1,7 +1,7 @@
 use mathlib.Core.Path.{_∙_}
 use Prim.Native.Nat.{_-_}
 use Rattle.definition.specs.Prog.{world}
-use Rattle.jobs.proofs.Takes as take
+use Rattle.ending.proofs.Takes as take
 use borrow.Author.Needs.{needs}
 use Rattle.cyw43.proofs.frames.get_rx_buf.Statement.{statement}
 use Rattle.cyw43.proofs.frames.get_rx_buf.Tie as tie

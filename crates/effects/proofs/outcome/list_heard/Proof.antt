@@ -1,5 +1,5 @@
 use borrow.Author.Needs.{needs}
-use Rattle.events.specs.Handle.{listHeard}
+use Rattle.handling.specs.Handle.{listHeard}
 use Rattle.effects.proofs.outcome.list_heard.Statement.{statement}
 use Rattle.effects.proofs.outcome.list_heard.Tie as tie
 
