@@ -44,7 +44,7 @@ impl Default for Oracle {
 impl Clone for Oracle {
     fn clone(&self) -> Self {
         let mut other = Self::new();
-        other.driver.restore(&self.driver.keep());
+        other.restore(self);
         other
     }
 }
@@ -136,6 +136,19 @@ impl Oracle {
         (result, tape.recording)
     }
 
+    /// One call on the tape that is in, without roll-back: its refusal and value. A panic, and
+    /// so the tape's 8, 9 and 12, goes to the caller.
+    #[inline(always)]
+    pub fn plain_call(&mut self, call: &Call, out: &mut [u8]) -> (u32, u64) {
+        match self.driver.call(call, out) {
+            Ok((value, _)) => (0, value),
+            Err(error) => {
+                let result = told(Ok(Err(error)), tape::left(|_, fault| fault));
+                (result.refusal, result.value)
+            }
+        }
+    }
+
     /// The packet reader alone: what it makes of the work buffer, or the refusal.
     pub fn read_packet(&mut self) -> Result<Packet, CallResult> {
         caught::run(|| self.driver.read_packet())
@@ -148,6 +161,11 @@ impl Oracle {
         caught::run(|| self.driver.read_event(offset, len))
             .map(|read| read.expect("the event reader has no errors"))
             .map_err(|caught| told(Err(caught), None))
+    }
+
+    /// Puts the driver where another stands.
+    pub fn restore(&mut self, other: &Oracle) {
+        self.driver.restore(&other.driver.keep());
     }
 
     pub fn state(&self) -> State {

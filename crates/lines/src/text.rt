@@ -1,6 +1,6 @@
 // What the player prints of a call, as bytes.
+use state_bytes::numbers::state_number;
 use turn::CallEnd;
-use wlan::WifiState;
 use wlan::numbers::refusal_of;
 use wlan::numbers::value_of;
 ghost use mathlib.Core.Path.{_≡_};
@@ -8,21 +8,10 @@ ghost use mathlib.Core.List.{List, [], _∷_, _++_};
 ghost use Prim.Native.Nat.{ℕ, _+_, _*_, _≤_};
 ghost use lib.ListN.{length, take};
 ghost use Rattle.slices.specs.Over.{over};
-ghost use Rattle.definition.specs.Player.{stateNumber, lineOf};
+ghost use Rattle.definition.specs.Player.{lineOf};
 ghost use Rattle.definition.specs.Player.{numbers as Player·numbers};
 ghost use Rattle.turn.specs.Onward.{endOf};
 ghost use Rattle.lines.specs.Text.{decimal, hex, rowOf, wordsOf, textOf};
-
-fn state_number(s: WifiState) -> u64
-    ensures { λ r. ⌜ r ≡ stateNumber s ⌝ }
-{
-    match s {
-        WifiState::Down => 0,
-        WifiState::Connecting => 1,
-        WifiState::Connected => 2,
-        WifiState::Disconnecting => 3,
-    }
-}
 
 // Call, refusal, value, state, sequence, credit, flow, id, log words.
 fn numbers(call: u32, e: CallEnd) -> [u64; 9]
@@ -37,7 +26,7 @@ fn numbers(call: u32, e: CallEnd) -> [u64; 9]
         call as u64,
         refusal_of(outcome) as u64,
         value_of(outcome),
-        state_number(state),
+        state_number(state) as u64,
         sdpcm.packet_tx_seq as u64,
         sdpcm.last_bus_data_credit as u64,
         sdpcm.wlan_flow_control as u64,

@@ -1,39 +1,50 @@
-//! Stands in for `heapless::Vec`: a list that holds at most N elements.
+//! Stands in for `heapless::Vec`: a list in place that holds at most N elements.
 
-use std::ops::Deref;
+use std::{fmt, mem::MaybeUninit, ops::Deref, slice};
 
-#[derive(Clone, Debug)]
-pub struct Vec<T, const N: usize>(std::vec::Vec<T>);
+#[derive(Clone, Copy)]
+pub struct Vec<T: Copy, const N: usize> {
+    len: usize,
+    items: [MaybeUninit<T>; N],
+}
 
-impl<T, const N: usize> Vec<T, N> {
+impl<T: Copy, const N: usize> Vec<T, N> {
     pub const fn new() -> Self {
-        Self(std::vec::Vec::new())
+        Self { len: 0, items: [MaybeUninit::uninit(); N] }
     }
 
     /// Gives the element back when the list is full.
     pub fn push(&mut self, item: T) -> Result<(), T> {
-        if self.0.len() == N {
+        if self.len == N {
             return Err(item);
         }
-        self.0.push(item);
+        self.items[self.len].write(item);
+        self.len += 1;
         Ok(())
     }
 
     pub fn clear(&mut self) {
-        self.0.clear();
+        self.len = 0;
     }
 }
 
-impl<T, const N: usize> Default for Vec<T, N> {
+impl<T: Copy, const N: usize> Default for Vec<T, N> {
     fn default() -> Self {
         Self::new()
     }
 }
 
-impl<T, const N: usize> Deref for Vec<T, N> {
+impl<T: Copy, const N: usize> Deref for Vec<T, N> {
     type Target = [T];
 
     fn deref(&self) -> &[T] {
-        &self.0
+        // The first `len` elements have been pushed.
+        unsafe { slice::from_raw_parts(self.items.as_ptr().cast(), self.len) }
+    }
+}
+
+impl<T: Copy + fmt::Debug, const N: usize> fmt::Debug for Vec<T, N> {
+    fn fmt(&self, f: &mut fmt::Formatter) -> fmt::Result {
+        f.debug_list().entries(self.iter()).finish()
     }
 }

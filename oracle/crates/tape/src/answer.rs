@@ -7,16 +7,17 @@ use crate::wish::{self, Wish};
 pub struct Fault(pub u8);
 
 /// What an operation was given.
-#[derive(Clone, Debug, PartialEq, Eq)]
+#[derive(Clone, Copy, Debug, PartialEq, Eq)]
 pub enum Given {
     Done,
     /// Interrupt bits, status word, clock or tick.
     Number(u64),
-    /// The whole transfer of a packet read.
-    Transfer(Vec<u8>),
+    /// The whole transfer of a packet read: the words after the head.
+    Transfer,
 }
 
 /// How many words the record that begins with this head takes, bad bits or not.
+#[inline]
 pub fn record_words(head: u32) -> usize {
     match head >> 28 {
         wish::STATUS => 2,
@@ -27,6 +28,7 @@ pub fn record_words(head: u32) -> usize {
 }
 
 /// Bits of a head that must be zero.
+#[inline]
 fn unused(kind: u32) -> u32 {
     match kind {
         wish::INTERRUPT | wish::PACKET => 0x0fff_0000,
@@ -38,6 +40,7 @@ const FAULT: u32 = 7;
 
 /// The next answer for `wish`: the words it takes and what it gives,
 /// or the refusal 8 or 9.
+#[inline(always)]
 pub fn read(wish: &Wish, rest: &[u32]) -> Result<(usize, Result<Given, Fault>), u32> {
     let &head = rest.first().ok_or(8u32)?;
     let words = record_words(head);
@@ -68,7 +71,7 @@ pub fn read(wish: &Wish, rest: &[u32]) -> Result<(usize, Result<Given, Fault>), 
             if head & 0xffff != u32::from(*n) {
                 return Err(9);
             }
-            Given::Transfer(rest[1..words].iter().flat_map(|w| w.to_le_bytes()).collect())
+            Given::Transfer
         }
         Wish::Write(_) | Wish::InterruptWrite(_) | Wish::FrameControl(_) => Given::Done,
         Wish::Wait(_) => unreachable!("a wait takes no answer"),

@@ -6,7 +6,7 @@ mod play;
 mod wish;
 
 pub use answer::{Fault, Given, record_words};
-pub use play::{Source, Stop, Tape, before_first_wish, line, load, take};
+pub use play::{Source, Stop, Tape, before_first_wish, left, line, load, rewind, take};
 pub use play::{
     clock, frame_control, interrupt, interrupt_write, packet, status, tick, wait, write,
 };

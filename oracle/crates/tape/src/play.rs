@@ -1,6 +1,12 @@
 //! The tape that plays on this thread, and the operations the shims ask of it.
 
-use std::{cell::RefCell, collections::BTreeMap, panic, rc::Rc};
+use std::{
+    cell::{Cell, RefCell},
+    collections::BTreeMap,
+    ops::Range,
+    panic, ptr,
+    rc::Rc,
+};
 
 use crate::{
     answer::{self, Fault, Given},
@@ -22,52 +28,95 @@ pub trait Source {
 
 #[derive(Default)]
 pub struct Tape {
-    pub recording: Vec<u32>,
     /// Words of the recording used so far.
     pub used: usize,
-    pub log: Vec<u32>,
+    /// Words of the recording that are played.
+    end: usize,
+    pub recording: Vec<u32>,
     pub capacity: usize,
+    pub log: Vec<u32>,
     /// The place of the fault that answered the last operation, if one did.
     pub fault: Option<u8>,
     pub source: Option<Rc<RefCell<dyn Source>>>,
+    first: Option<(fn(*mut u8), *mut u8)>,
     /// Counts of the driver's own log lines, where wanted.
     pub lines: Option<BTreeMap<&'static str, u64>>,
-    first: Option<Box<dyn FnOnce()>>,
 }
 
 thread_local! {
-    static PLAYING: RefCell<Option<Tape>> = const { RefCell::new(None) };
+    /// The tape that is in: it is owned from here, by `load` and `take` alone.
+    static PLAYING: Cell<*mut Tape> = const { Cell::new(ptr::null_mut()) };
+}
+
+/// The tape that is in. Nothing that runs while it is held asks for it again.
+#[inline(always)]
+fn playing<'a>() -> &'a mut Tape {
+    unsafe { PLAYING.get().as_mut() }.expect("no tape is in")
 }
 
 /// Puts a tape in; one that was in is thrown away.
 pub fn load(tape: Tape) {
-    PLAYING.with_borrow_mut(|p| *p = Some(tape));
+    let before = PLAYING.replace(Box::into_raw(Box::new(tape)));
+    if !before.is_null() {
+        drop(unsafe { Box::from_raw(before) });
+    }
 }
 
 /// Takes the tape out.
 pub fn take() -> Tape {
-    PLAYING.with_borrow_mut(|p| p.take()).expect("no tape is in")
+    let tape = PLAYING.replace(ptr::null_mut());
+    assert!(!tape.is_null(), "no tape is in");
+    *unsafe { Box::from_raw(tape) }
 }
 
-/// Has `f` run just before the next operation.
-pub fn before_first_wish(f: impl FnOnce() + 'static) {
-    PLAYING.with_borrow_mut(|p| p.as_mut().expect("no tape is in").first = Some(Box::new(f)));
+/// Begins a call that plays these words of the tape that is in, with an empty log.
+#[inline(always)]
+pub fn rewind(words: &Range<usize>) {
+    let tape = playing();
+    tape.used = words.start;
+    tape.end = words.end;
+    tape.log.clear();
+    tape.fault = None;
+}
+
+/// The log of the tape that is in, and the fault that answered the last operation.
+pub fn left<R>(f: impl FnOnce(&[u32], Option<u8>) -> R) -> R {
+    let tape = playing();
+    f(&tape.log, tape.fault)
+}
+
+/// Has `f` run on `at` just before the next operation.
+pub fn before_first_wish(f: fn(*mut u8), at: *mut u8) {
+    playing().first = Some((f, at));
 }
 
 /// A line that the driver logs.
+#[cfg(feature = "lines")]
 #[inline(never)]
 pub fn line(format: &'static str) {
-    PLAYING.with_borrow_mut(|p| {
-        if let Some(lines) = p.as_mut().and_then(|t| t.lines.as_mut()) {
-            *lines.entry(format).or_default() += 1;
-        }
-    });
+    if let Some(tape) = unsafe { PLAYING.get().as_mut() }
+        && let Some(lines) = &mut tape.lines
+    {
+        *lines.entry(format).or_default() += 1;
+    }
 }
+
+/// Nothing is kept of the driver's lines.
+#[cfg(not(feature = "lines"))]
+#[inline(always)]
+pub fn line(_format: &'static str) {}
 
 impl Tape {
     /// A recording to be played from its start.
     pub fn recorded(recording: &[u32], capacity: usize) -> Self {
-        Tape { recording: recording.to_vec(), capacity, ..Tape::default() }
+        let log = Vec::with_capacity(capacity);
+        Tape {
+            recording: recording.to_vec(),
+            end: recording.len(),
+            capacity,
+            log,
+            ..Tape::default()
+        }
     }
 
     /// An empty recording that grows as the call asks.
@@ -76,40 +125,54 @@ impl Tape {
     }
 
     /// 12, then 8, then 9 or 7.
-    fn play(&mut self, wish: &Wish) -> Result<Result<Given, Fault>, Stop> {
-        if let Some(first) = self.first.take() {
-            first();
+    #[inline(always)]
+    fn play(&mut self, wish: &Wish) -> Result<Result<Given, Fault>, u32> {
+        if let Some((f, at)) = self.first.take() {
+            f(at);
         }
         if self.capacity - self.log.len() < wish.len() {
-            return Err(Stop(12));
+            return Err(12);
         }
         wish.put(&mut self.log);
         self.fault = None;
-        if let Some(source) = &self.source {
-            source.borrow_mut().seen(wish);
+        if self.source.is_some() {
+            self.watched(wish);
         }
         if let Wish::Wait(_) = wish {
             return Ok(Ok(Given::Done));
         }
-        if let Some(source) = &self.source
-            && self.used == self.recording.len()
-        {
-            self.recording.extend(source.borrow_mut().answer(wish));
-        }
-        let (words, given) = answer::read(wish, &self.recording[self.used..]).map_err(Stop)?;
+        let (words, given) = answer::read(wish, &self.recording[self.used..self.end])?;
         self.used += words;
-        self.fault = given.as_ref().err().map(|f| f.0);
+        if let Err(Fault(place)) = given {
+            self.fault = Some(place);
+        }
         Ok(given)
+    }
+
+    /// Tells the source, and has it answer where the recording is used up.
+    #[cold]
+    fn watched(&mut self, wish: &Wish) {
+        let Some(source) = &self.source else { return };
+        source.borrow_mut().seen(wish);
+        if self.used == self.recording.len() && !matches!(wish, Wish::Wait(_)) {
+            self.recording.extend(source.borrow_mut().answer(wish));
+            self.end = self.recording.len();
+        }
     }
 }
 
-#[inline(never)]
-fn ask(wish: Wish) -> Result<Given, Fault> {
-    let played = PLAYING.with_borrow_mut(|p| p.as_mut().expect("no tape is in").play(&wish));
-    // The payload passes the driver by unwinding; no panic message is made.
-    played.unwrap_or_else(|stop| panic::resume_unwind(Box::new(stop)))
+/// The payload passes the driver by unwinding; no panic message is made.
+#[cold]
+fn stop(refusal: u32) -> ! {
+    panic::resume_unwind(Box::new(Stop(refusal)))
 }
 
+#[inline(always)]
+fn ask(wish: Wish) -> Result<Given, Fault> {
+    playing().play(&wish).unwrap_or_else(|refusal| stop(refusal))
+}
+
+#[inline(always)]
 fn number(given: Given) -> u64 {
     match given {
         Given::Number(n) => n,
@@ -125,12 +188,17 @@ pub fn status() -> Result<u32, Fault> {
     ask(Wish::Status).map(|g| number(g) as u32)
 }
 
-/// The whole transfer, 4 + n rounded up to 4 bytes.
-pub fn packet(n: u16) -> Result<Vec<u8>, Fault> {
-    ask(Wish::Packet(n)).map(|g| match g {
-        Given::Transfer(bytes) => bytes,
-        other => unreachable!("no transfer: {other:?}"),
-    })
+/// The whole transfer, 4 + n rounded up to 4 bytes, which `into` has room for exactly.
+pub fn packet(n: u16, into: &mut [u8]) -> Result<(), Fault> {
+    let words = 1 + usize::from(n).div_ceil(4);
+    assert_eq!(into.len(), 4 * words, "packet read: the transfer's length");
+    ask(Wish::Packet(n))?;
+    let tape = playing();
+    let transfer = &tape.recording[tape.used - words..tape.used];
+    for (bytes, word) in into.chunks_exact_mut(4).zip(transfer) {
+        bytes.copy_from_slice(&word.to_le_bytes());
+    }
+    Ok(())
 }
 
 pub fn clock() -> u64 {

@@ -26,6 +26,7 @@ pub enum Wish<'a> {
 }
 
 impl Wish<'_> {
+    #[inline(always)]
     pub fn kind(&self) -> u32 {
         match self {
             Wish::Interrupt => INTERRUPT,
@@ -40,6 +41,7 @@ impl Wish<'_> {
         }
     }
 
+    #[inline(always)]
     fn low(&self) -> u32 {
         match *self {
             Wish::Packet(n) => n.into(),
@@ -52,6 +54,7 @@ impl Wish<'_> {
     }
 
     /// How many log words the operation takes.
+    #[inline(always)]
     pub fn len(&self) -> usize {
         match self {
             Wish::Write(bytes) => 1 + bytes.len().div_ceil(4),
@@ -63,14 +66,17 @@ impl Wish<'_> {
         false
     }
 
+    #[inline(always)]
     pub fn put(&self, log: &mut Vec<u32>) {
         let low = self.low();
         assert!(low < 1 << 28, "an operation's number above 28 bits");
         log.push(self.kind() << 28 | low);
         if let Wish::Write(bytes) = self {
-            for part in bytes.chunks(4) {
-                let mut word = [0u8; 4];
-                word[..part.len()].copy_from_slice(part);
+            let (words, last) = bytes.as_chunks::<4>();
+            log.extend(words.iter().map(|w| u32::from_le_bytes(*w)));
+            if !last.is_empty() {
+                let mut word = [0; 4];
+                word[..last.len()].copy_from_slice(last);
                 log.push(u32::from_le_bytes(word));
             }
         }

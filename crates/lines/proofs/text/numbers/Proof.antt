@@ -26,6 +26,9 @@ cast-t15 c = search needs
 cast-t16 : tie.Need-cast-t16
 cast-t16 c = search needs
 
+cast-t17 : tie.Need-cast-t17
+cast-t17 c = search needs
+
 returns : tie.Need-returns
 returns c = λ log buf out. rw (c .before .before .before .before .before .before .refusal-of .ensures, c .before .before .before .before .before .value-of .ensures, c .before .before .before .before .state-number .ensures)
 
@@ -41,4 +44,5 @@ numbers-spec =
     cast-t14
     cast-t15
     cast-t16
+    cast-t17
     returns)

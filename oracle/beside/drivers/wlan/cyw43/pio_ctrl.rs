@@ -280,10 +280,10 @@ impl Driver {
 /// Has the two padding bytes of the scan options zeroed just before the scan's first
 /// operation. By then the driver has laid the options and read nothing over them.
 fn zero_scan_padding(buffer: *mut u8) {
-    tape::before_first_wish(move || unsafe {
-        buffer.add(SCAN_PADDING).write_volatile(0);
-        buffer.add(SCAN_PADDING + 1).write_volatile(0);
-    });
+    fn zero(at: *mut u8) {
+        unsafe { at.cast::<[u8; 2]>().write_volatile([0; 2]) }
+    }
+    tape::before_first_wish(zero, unsafe { buffer.add(SCAN_PADDING) });
 }
 
 struct NoPins;

@@ -34,6 +34,7 @@ struct Command {
 }
 
 impl Command {
+    #[inline(always)]
     fn read(bytes: &[u8]) -> Self {
         let word = u32::from_le_bytes(bytes[..4].try_into().unwrap());
         Self {
@@ -44,10 +45,12 @@ impl Command {
         }
     }
 
+    #[inline(always)]
     fn is(&self, write: bool, func: u32, addr: u32, len: usize) -> bool {
         self.write == write && self.func == func && self.addr == addr && self.len == len
     }
 
+    #[cold]
     fn unknown(&self) -> ! {
         panic!(
             "unknown bus command: write {} func {} addr {:#x} len {}",
@@ -86,6 +89,7 @@ impl PioSpi {
     pub(super) fn stop_spi_comms(&self) {}
 
     /// The two parts of a packet write: its command word, then its bytes.
+    #[inline(always)]
     pub(super) fn write_bytes(&mut self, tx_buf: &[u8]) -> Result<usize, DevError> {
         match self.announced.take() {
             None => {
@@ -104,6 +108,7 @@ impl PioSpi {
     }
 
     /// A register read, a register write or a packet read.
+    #[inline(always)]
     pub(super) fn transfer(&mut self, tx_buf: &[u8], rx_buf: &mut [u8]) -> Result<usize, DevError> {
         if tx_buf.is_empty() {
             self.read(rx_buf)
@@ -113,6 +118,7 @@ impl PioSpi {
         }
     }
 
+    #[inline(always)]
     fn read(&mut self, rx_buf: &mut [u8]) -> Result<usize, DevError> {
         let cmd = Command::read(rx_buf);
         if cmd.is(false, BUS, SPI_INTERRUPT_REGISTER, 2) {
@@ -123,14 +129,14 @@ impl PioSpi {
             rx_buf[4..8].copy_from_slice(&status.to_le_bytes());
         } else if !cmd.write && cmd.func == WLAN && cmd.addr == 0 {
             // All of the transfer lands: the recording has its first four bytes too.
-            let transfer = tape::packet(cmd.len as u16).map_err(fault)?;
-            rx_buf.copy_from_slice(&transfer);
+            tape::packet(cmd.len as u16, rx_buf).map_err(fault)?;
         } else {
             cmd.unknown();
         }
         Ok(rx_buf.len())
     }
 
+    #[inline(always)]
     fn write_register(&mut self, tx_buf: &[u8]) -> Result<usize, DevError> {
         let cmd = Command::read(tx_buf);
         if cmd.is(true, BUS, SPI_INTERRUPT_REGISTER, 2) {

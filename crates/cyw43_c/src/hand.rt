@@ -1,0 +1,42 @@
+// What an entry hands back.
+use session_bytes::session::Session;
+use session_bytes::session::put_session;
+use turn::CallEnd;
+use wlan::numbers::refusal_of;
+use wlan::numbers::value_of;
+ghost use mathlib.Core.Path.{_≡_};
+ghost use mathlib.Core.List.{List, [], _∷_};
+ghost use Prim.Native.Nat.{ℕ};
+ghost use lib.ListN.{length};
+ghost use Rattle.slices.specs.Over.{over};
+ghost use Rattle.turn.specs.Onward.{endOf};
+ghost use Rattle.cyw43_c.specs.Entry.{shown, handed};
+
+fn put_number(result: &mut [u64], i: usize, n: u64)
+    ensures { λ _. ⌜ now (result .exit) ≡ over (now (result .entry)) i (n ∷ []) ⌝ }
+{
+    if i < result.len() {
+        result[i] = n;
+    }
+}
+
+// The value and the log's length, as far as there is room.
+pub fn put_result(result: &mut [u64], value: u64, len: u64)
+    ensures { λ _. ⌜ now (result .exit) ≡ over (now (result .entry)) 0 (value ∷ len ∷ []) ⌝ }
+{
+    put_number(result, 0, value);
+    put_number(result, 1, len);
+}
+
+// The refusal's number; state and list go into the session's bytes, value and log length into the result.
+pub fn hand_back(e: CallEnd, session: &mut [u8], result: &mut [u64]) -> u32
+    requires { ⌜ length (now session) ≡ 1393 ⌝ }
+    ensures { λ r. ⌜ ((log buf out : List ℕ) → shown r (now (session .exit)) log buf out (now (result .exit)) ≡ handed (now (result .entry)) (endOf e log buf out)) ⌝ }
+{
+    let o = e.outcome;
+    let st = e.st;
+    let list = e.list;
+    put_session(Session { st: st, list: list }, session);
+    put_result(result, value_of(o), e.len as u64);
+    refusal_of(o)
+}

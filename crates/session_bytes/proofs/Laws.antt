@@ -1,0 +1,204 @@
+-- What is read back is what was written.
+use mathlib.Core.Path.{_≡_, refl, sym, ap, subst, _∙_}
+use mathlib.Core.Bool.{Bool, true, false, _&&_, false≢true}
+use mathlib.Core.List.{List, [], _∷_, _++_, append-nil, append-assoc}
+use Prim.Native.Nat.{ℕ, zero, suc, _+_, _*_, _-_, _<_, _≤_}
+use native.Mathlib.Nat.{zero-add}
+use native.Mathlib.Numerals.{add-one}
+use native.Mathlib.Omega.{arith}
+use borrow.Author.Tests.{eq-eqb, eqb-true}
+use lib.Dec.{eqb}
+use lib.IntN.{ℤ}
+use lib.ListN.{length, take, drop, getD, length-append, length-take}
+use lib.Seq.{take-at, drop-at, drop-drop, drop-cons, take-suc, getD-append-add}
+use Rattle.slices.specs.Over.{over}
+use Rattle.slices.specs.Le.{le16At, le32At, signed16}
+use Rattle.slices.proofs.Over.{Run, run-more, over-append, over-whole, part-rest}
+use Rattle.wlan.specs.declared.ScanRecord.{ScanRecord}
+use Rattle.wlan.specs.declared.ScanList.{ScanList}
+use Rattle.wlan.specs.declared.State.{State}
+use Rattle.definition.specs.Scan.{sameBytes}
+use Rattle.state_bytes.specs.StateBytes.{le64, frontBytes, pendingBytes, linkBytes, stateBytes, stateIn}
+use Rattle.state_bytes.proofs.Laws.{length-state}
+use Rattle.session_bytes.specs.declared.session.Session.{Session}
+use Rattle.session_bytes.specs.ListBytes.{tailBytes, recordBytes, recordsBytes, listBytes, recordOf, recordsFrom, listIn, Whole, EachWhole}
+use Rattle.session_bytes.specs.Session.{sessionBytes, sessionIn, isSession}
+
+-- ---- a record
+
+pub bssid-at : (p : List ℕ) → 42 ≤ length p → getD p 32 0 ∷ getD p 33 0 ∷ getD p 34 0 ∷ getD p 35 0 ∷ getD p 36 0 ∷ getD p 37 0 ∷ [] ≡ take 6 (drop 32 p)
+bssid-at p h =
+    rw (drop-cons p 32 0 (omega arith), drop-cons p 33 0 (omega arith), drop-cons p 34 0 (omega arith), drop-cons p 35 0 (omega arith), drop-cons p 36 0 (omega arith), drop-cons p 37 0 (omega arith))
+
+tail-at : (x y z : List ℕ) (k : ℕ) → length x ≡ 32 → length y ≡ 6 → getD (x ++ (y ++ z)) (38 + k) 0 ≡ getD z k 0
+tail-at x y z k h g =
+    let e : 38 + k ≡ length x + (length y + k) = omega arith in
+    rw (e, getD-append-add x (y ++ z) (length y + k) 0, getD-append-add y z k 0)
+
+pub record-is : (r : ScanRecord) (a b : List ℕ) (c d : ℕ) (z : ℤ) → a ≡ r .ssid → b ≡ r .bssid → c ≡ r .«ssid_len» → d ≡ r .channel → z ≡ r .rssi
+    → record { ssid = a; bssid = b; «ssid_len» = c; channel = d; rssi = z } ≡ r
+record-is r a b c d z ea eb ec ed ez = rw (ea, eb, ec, ed, ez)
+
+record-back : (r : ScanRecord) (t : List ℕ) → length (r .ssid) ≡ 32 → length (r .bssid) ≡ 6 → signed16 (le16At (tailBytes r) 2) ≡ r .rssi
+    → recordOf (r .ssid ++ (r .bssid ++ (tailBytes r ++ t))) ≡ r
+unfolding recordOf tailBytes
+record-back r t h k s =
+    let z : List ℕ = tailBytes r ++ t in
+    record-is r _ _ _ _ _
+    (take-at (r .ssid) (r .bssid ++ z) 32 h)
+    (ap (λ (l : List ℕ). take 6 l) (drop-at (r .ssid) (r .bssid ++ z) 32 h) ∙ take-at (r .bssid) z 6 k)
+    (tail-at (r .ssid) (r .bssid) z 0 h k)
+    (tail-at (r .ssid) (r .bssid) z 1 h k)
+    (rw (tail-at (r .ssid) (r .bssid) z 2 h k, tail-at (r .ssid) (r .bssid) z 3 h k) s)
+
+record-append : (r : ScanRecord) (t : List ℕ) → recordBytes r ++ t ≡ r .ssid ++ (r .bssid ++ (tailBytes r ++ t))
+unfolding recordBytes
+record-append r t = append-assoc (r .ssid) (r .bssid ++ tailBytes r) t ∙ ap (λ (l : List ℕ). r .ssid ++ l) (append-assoc (r .bssid) (tailBytes r) t)
+
+record-size : (r : ScanRecord) → length (r .ssid) ≡ 32 → length (r .bssid) ≡ 6 → length (recordBytes r) ≡ 42
+unfolding recordBytes tailBytes
+record-size r h k = omega (arith, length-append (r .ssid) (r .bssid ++ tailBytes r), length-append (r .bssid) (tailBytes r))
+
+pub record-whole : (r : ScanRecord) → length (r .ssid) ≡ 32 → length (r .bssid) ≡ 6 → signed16 (le16At (tailBytes r) 2) ≡ r .rssi → Whole r
+record-whole r h k s = record { size = record-size r h k; back = λ t. ap recordOf (record-append r t) ∙ record-back r t h k s }
+
+pub record-put : (d : List ℕ) {d₁ d₂ d₃ : List ℕ} (at : ℕ) (r : ScanRecord) {t : List ℕ} → length (r .ssid) ≡ 32 → length (r .bssid) ≡ 6 → t ≡ tailBytes r
+    → d₁ ≡ over d at (r .ssid) → d₂ ≡ over d₁ (at + 32) (r .bssid) → d₃ ≡ over d₂ (at + 38) t → d₃ ≡ over d at (recordBytes r)
+unfolding recordBytes
+record-put d at r {t} h k et e₁ e₂ e₃ =
+    let a = r .ssid in
+    let b = r .bssid in
+    let f : at + 32 ≡ at + length a = omega arith in
+    let g : at + 38 ≡ at + length (a ++ b) = omega (arith, length-append a b) in
+    rw (e₃, e₂, e₁, et, f, over-append d at a b, g, over-append d at (a ++ b) (tailBytes r), append-assoc a b (tailBytes r))
+
+-- ---- records
+
+records-append : (a b : List ScanRecord) → recordsBytes (a ++ b) ≡ recordsBytes a ++ recordsBytes b
+unfolding recordsBytes
+records-append [] b = refl
+records-append (r ∷ a) b = rw (records-append a b, append-assoc (recordBytes r) (recordsBytes a) (recordsBytes b))
+
+records-one : (r : ScanRecord) → recordsBytes (r ∷ []) ≡ recordBytes r
+unfolding recordsBytes
+records-one r = append-nil (recordBytes r)
+
+length-records : (l : List ScanRecord) → EachWhole l → length (recordsBytes l) ≡ 42 * length l
+unfolding recordsBytes
+length-records [] w = refl
+length-records (r ∷ l) w = omega (arith, length-append (recordBytes r) (recordsBytes l), w .0 .size, length-records l (w .1))
+
+records-back : (l : List ScanRecord) → EachWhole l → recordsFrom (length l) (recordsBytes l) ≡ l
+unfolding recordsBytes recordsFrom
+records-back [] w = refl
+records-back (r ∷ l) w = rw (w .0 .back (recordsBytes l), drop-at (recordBytes r) (recordsBytes l) 42 (w .0 .size), records-back l (w .1))
+
+each-more : (l : List ScanRecord) (r : ScanRecord) → EachWhole l → Whole r → EachWhole (l ++ (r ∷ []))
+each-more [] r w x = (x, tt)
+each-more (s ∷ l) r w x = (w .0, each-more l r (w .1) x)
+
+-- one record more
+pub each-next : (l : List ScanRecord) (i : ℕ) (z : ScanRecord) → i < length l → EachWhole (take i l) → Whole (getD l i z) → EachWhole (take (i + 1) l)
+each-next l i z h w x = rw (add-one, take-suc l i z h) (each-more (take i l) (getD l i z) w x)
+
+pub records-next : {d₀ d e : List ℕ} (l : List ScanRecord) (i : ℕ) (z : ScanRecord) → i < length l → EachWhole (take i l) → Run d₀ 49 (recordsBytes (take i l)) d
+    → e ≡ over d (49 + 42 * i) (recordBytes (getD l i z)) → Run d₀ 49 (recordsBytes (take (i + 1) l)) e
+records-next l i z h w r e =
+    rw (add-one, take-suc l i z h, records-append (take i l) (getD l i z ∷ []), records-one (getD l i z))
+    (run-more (recordBytes (getD l i z)) r (omega (arith, length-records (take i l) w, length-take i l)) e)
+
+pub length-from : (n : ℕ) (p : List ℕ) → length (recordsFrom n p) ≡ n
+unfolding recordsFrom
+length-from zero p = refl
+length-from (suc n) p = ap suc (length-from n (drop 42 p))
+
+next-record : (i : ℕ) → 42 * suc i ≡ 42 + 42 * i
+next-record i = omega arith
+
+pub getD-from : (n : ℕ) (p : List ℕ) (i : ℕ) (z : ScanRecord) → i < n → getD (recordsFrom n p) i z ≡ recordOf (drop (42 * i) p)
+unfolding recordsFrom
+getD-from zero p i z h = absurd (omega arith)
+getD-from (suc n) p zero z h = refl
+getD-from (suc n) p (suc i) z h = rw (next-record i, ← drop-drop (42 * i) 42 p) (getD-from n (drop 42 p) i z (omega arith))
+
+-- the record i of the part `&p[8 + 42 * i..]`
+pub from-part : (p : List ℕ) (i : ℕ) (z : ScanRecord) → i < 32 → recordOf (take (length p - (8 + 42 * i)) (drop (8 + 42 * i) p)) ≡ getD (recordsFrom 32 (drop 8 p)) i z
+from-part p i z h = rw (part-rest p (8 + 42 * i), ← drop-drop (42 * i) 8 p) (sym (getD-from 32 (drop 8 p) i z h))
+
+-- ---- the list
+
+pub list-put : (d : List ℕ) {d₁ d₂ n : List ℕ} (l : ScanList) → n ≡ le64 (l .count) → d₁ ≡ over d 41 n → d₂ ≡ over d₁ 49 (recordsBytes (l .records)) → d₂ ≡ over d 41 (listBytes l)
+unfolding listBytes
+list-put d l en e₁ e₂ = rw (e₂, e₁, en) (over-append d 41 (le64 (l .count)) (recordsBytes (l .records)))
+
+pub list-size : (l : ScanList) → length (l .records) ≡ 32 → EachWhole (l .records) → length (listBytes l) ≡ 1352
+unfolding listBytes
+list-size l h w = omega (arith, length-append (le64 (l .count)) (recordsBytes (l .records)), length-records (l .records) w)
+
+pub list-back : (l : ScanList) → length (l .records) ≡ 32 → EachWhole (l .records) → le32At (le64 (l .count)) 0 + 4294967296 * le32At (le64 (l .count)) 4 ≡ l .count → listIn (listBytes l) ≡ l
+unfolding listIn listBytes
+list-back l h w e =
+    let q : recordsFrom 32 (recordsBytes (l .records)) ≡ l .records = subst (λ (n : ℕ). recordsFrom n (recordsBytes (l .records)) ≡ l .records) h (records-back (l .records) w) in
+    rw (q, e)
+
+-- ---- the session
+
+state-front : (s : State) (t : List ℕ) → stateIn (stateBytes s ++ t) ≡ stateIn (stateBytes s)
+unfolding stateIn stateBytes frontBytes pendingBytes linkBytes
+state-front s t = refl
+
+pub session-back : (s : Session) → stateIn (stateBytes (s .st)) ≡ s .st → listIn (listBytes (s .list)) ≡ s .list → sessionIn (sessionBytes s) ≡ s
+unfolding sessionIn sessionBytes
+session-back s h k =
+    rw (state-front (s .st) (listBytes (s .list)), drop-at (stateBytes (s .st)) (listBytes (s .list)) 41 (length-state (s .st)), h, k)
+
+pub session-size : (s : Session) → length (listBytes (s .list)) ≡ 1352 → length (sessionBytes s) ≡ 1393
+unfolding sessionBytes
+session-size s h = omega (arith, length-append (stateBytes (s .st)) (listBytes (s .list)), length-state (s .st))
+
+session-over : (d : List ℕ) (s : Session) → over (over d 0 (stateBytes (s .st))) 41 (listBytes (s .list)) ≡ over d 0 (sessionBytes s)
+unfolding sessionBytes
+session-over d s =
+    let a = stateBytes (s .st) in
+    let b = listBytes (s .list) in
+    subst (λ (n : ℕ). over (over d 0 a) n b ≡ over d 0 (a ++ b)) (zero-add (length a) ∙ length-state (s .st)) (over-append d 0 a b)
+
+pub session-put : (d : List ℕ) {d₁ d₂ : List ℕ} (s : Session) → length d ≡ 1393 → length (listBytes (s .list)) ≡ 1352 → d₁ ≡ over d 0 (stateBytes (s .st)) → d₂ ≡ over d₁ 41 (listBytes (s .list)) → d₂ ≡ sessionBytes s
+session-put d s h k e₁ e₂ = rw (e₂, e₁, session-over d s) (over-whole d (sessionBytes s) (omega (arith, session-size s k)))
+
+pub same-refl : (a : List ℕ) → sameBytes a a ≡ true
+unfolding sameBytes
+same-refl [] = refl
+same-refl (x ∷ a) = rw (eq-eqb x x refl, same-refl a)
+
+pub session-known : (s : Session) → length (sessionBytes s) ≡ 1393 → sessionIn (sessionBytes s) ≡ s → isSession (sessionBytes s) ≡ true
+unfolding isSession
+session-known s h e = rw (e, h, same-refl (sessionBytes s))
+
+-- ---- bytes that are a session's
+
+and-left : (a b : Bool) → (a && b) ≡ true → a ≡ true
+and-left true b e = refl
+and-left false b e = e
+
+and-right : (a b : Bool) → (a && b) ≡ true → b ≡ true
+and-right true b e = e
+and-right false b e = absurd (false≢true e)
+
+pub same-eq : (a b : List ℕ) → sameBytes a b ≡ true → a ≡ b
+unfolding sameBytes
+same-eq [] [] e = refl
+same-eq [] (y ∷ b) e = absurd (false≢true e)
+same-eq (x ∷ a) [] e = absurd (false≢true e)
+same-eq (x ∷ a) (y ∷ b) e =
+    ap (λ (z : ℕ). z ∷ a) (eqb-true x y (and-left (eqb x y) (sameBytes a b) e)) ∙ ap (λ (l : List ℕ). y ∷ l) (same-eq a b (and-right (eqb x y) (sameBytes a b) e))
+
+-- bytes of another length are none
+pub session-length : (b : List ℕ) → isSession b ≡ true → length b ≡ 1393
+unfolding isSession
+session-length b h = eqb-true (length b) 1393 (and-left (eqb (length b) 1393) (sameBytes (sessionBytes (sessionIn b)) b) h)
+
+-- each session has one form: bytes that are a session's are the bytes of the session that they hold
+pub session-form : (b : List ℕ) → isSession b ≡ true → sessionBytes (sessionIn b) ≡ b
+unfolding isSession
+session-form b h = same-eq (sessionBytes (sessionIn b)) b (and-right (eqb (length b) 1393) (sameBytes (sessionBytes (sessionIn b)) b) h)

@@ -1,0 +1,35 @@
+use Rattle.slices.proofs.Over.{part-rest}
+use Rattle.session_bytes.specs.Session.{sessionIn}
+use borrow.Author.Needs.{needs}
+use Rattle.session_bytes.proofs.session.session_in.Statement.{statement}
+use Rattle.session_bytes.proofs.session.session_in.Tie as tie
+
+state-at-requires : tie.Need-state-at-requires
+state-at-requires c κs = search needs
+
+sub-list-in : tie.Need-sub-list-in
+sub-list-in c = search needs
+
+part-list-in-start : tie.Need-part-list-in-start
+part-list-in-start c = search needs
+
+part-list-in-end : tie.Need-part-list-in-end
+part-list-in-end c = search needs
+
+list-in-requires : tie.Need-list-in-requires
+list-in-requires c κs = search needs
+
+returns : tie.Need-returns
+unfolding sessionIn
+returns c = rw (c .before .before .state-at .ensures, c .list-in .ensures, part-rest (c .before .before .before .before .args .bytes .now) 41)
+
+pub session-in-spec : {M : Type 1} → statement M
+session-in-spec =
+    tie.close
+    (tie.spec
+    state-at-requires
+    sub-list-in
+    part-list-in-start
+    part-list-in-end
+    list-in-requires
+    returns)

@@ -1,0 +1,2 @@
+pub mod ListBytes
+pub mod Session

@@ -1,0 +1,72 @@
+// A session's bytes. Those that are no session's are told apart.
+use crate::list::list_in;
+use crate::list::put_list;
+use state_bytes::state::put_state;
+use state_bytes::state::state_at;
+use wlan::ScanList;
+use wlan::State;
+ghost use mathlib.Core.Path.{_≡_};
+ghost use mathlib.Core.Bool.{true};
+ghost use lib.ListN.{length};
+ghost use Rattle.definition.specs.Scan.{sameBytes};
+ghost use Rattle.session_bytes.specs.Session as to;
+
+pub struct Session {
+    pub st: State,
+    pub list: ScanList,
+}
+
+pub fn session_in(bytes: &[u8]) -> Session
+    requires { ⌜ length (now bytes) ≡ 1393 ⌝ }
+    ensures { λ s. ⌜ s ≡ to.sessionIn (now (bytes .entry)) ⌝ }
+{
+    Session {
+        st: state_at(bytes),
+        list: list_in(&bytes[41..]),
+    }
+}
+
+// What is read from the bytes is the session.
+pub fn put_session(s: Session, out: &mut [u8])
+    requires { ⌜ length (now out) ≡ 1393 ⌝ }
+    ensures put { λ _. ⌜ now (out .exit) ≡ to.sessionBytes s ⌝ }
+    ensures back { λ _. ⌜ (to.isSession (to.sessionBytes s) ≡ true) × (to.sessionIn (to.sessionBytes s) ≡ s) ⌝ }
+{
+    let st = s.st;
+    let list = s.list;
+    put_state(st, out);
+    put_list(list, out);
+}
+
+fn same_bytes(a: &[u8], b: &[u8]) -> bool
+    requires { ⌜ length (now a) ≡ length (now b) ⌝ }
+    ensures { λ r. ⌜ r ≡ sameBytes (now (a .entry)) (now (b .entry)) ⌝ }
+{
+    let mut i = 0;
+    while i < a.len() {
+        if a[i] != b[i] {
+            return false;
+        }
+        i += 1;
+    }
+    true
+}
+
+// Any bytes hold a scan list: only the state's are compared.
+fn same_as_read(bytes: &[u8]) -> bool
+    requires { ⌜ length (now bytes) ≡ 1393 ⌝ }
+    ensures { λ r. ⌜ r ≡ sameBytes (to.sessionBytes (to.sessionIn (now (bytes .entry)))) (now (bytes .entry)) ⌝ }
+{
+    let mut b = [0u8; 41];
+    put_state(state_at(bytes), &mut b);
+    same_bytes(&b, &bytes[..41])
+}
+
+pub fn is_session(bytes: &[u8]) -> bool
+    ensures { λ r. ⌜ r ≡ to.isSession (now (bytes .entry)) ⌝ }
+{
+    if bytes.len() != 1393 {
+        return false;
+    }
+    same_as_read(bytes)
+}
