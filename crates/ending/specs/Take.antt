@@ -12,19 +12,18 @@ use Rattle.wlan.specs.declared.Refusal.{Refusal}
 use Rattle.wlan.specs.declared.Success.{Success}
 use Rattle.wlan.specs.declared.PendingBuf.{PendingBuf}
 use Rattle.wlan.specs.declared.PendingRx.{PendingRx}
-use Rattle.wlan.specs.declared.ScanList.{ScanList}
 use Rattle.wlan.specs.declared.State.{State}
 use Rattle.definition.specs.Bus.{Bytes}
 use Rattle.definition.specs.Prog.{World}
 use Rattle.definition.specs.Run.{End}
-use Rattle.turn.specs.declared.CallEnd.{CallEnd}
-use Rattle.turn.specs.Onward.{endOf}
+use Rattle.turn.specs.declared.StateEnd.{StateEnd}
+use Rattle.turn.specs.Onward.{endOf, withList}
 
-abbrev pub ended : Outcome → State → ScanList → CallEnd
-ended o s l = record { outcome = o; st = s; list = l; len = 0 }
+abbrev pub ended : Outcome → State → StateEnd
+ended o s = record { outcome = o; st = s; len = 0 }
 
-abbrev pub driverError : DriverError → State → ScanList → CallEnd
-driverError e s l = ended (Outcome.Refused (Refusal.Driver e)) s l
+abbrev pub driverError : DriverError → State → StateEnd
+driverError e s = ended (Outcome.Refused (Refusal.Driver e)) s
 
 abbrev pub framelessState : State → State
 framelessState s = withPending s (setFrame (s .pending) PendingRx.None)
@@ -32,6 +31,6 @@ framelessState s = withPending s (setFrame (s .pending) PendingRx.None)
 unfoldable pub frameTaken : PendingBuf → World → List ℕ → Bytes → End
 frameTaken f w log out =
     let s = framelessState (w .st) in
-    pick (ltb (length out) (f .len)) (endOf (driverError DriverError.NoMem s (w .list)) log (w .buf) out)
-    (pick (ltb (length (w .buf)) (f .offset + f .len)) (endOf (driverError DriverError.PastBuffer s (w .list)) log (w .buf) out)
-    (endOf (ended (Outcome.Ok (Success.Taken (f .len))) s (w .list)) log (w .buf) (over out 0 (take (f .len) (drop (f .offset) (w .buf))))))
+    pick (ltb (length out) (f .len)) (endOf (withList (driverError DriverError.NoMem s) (w .list)) log (w .buf) out)
+    (pick (ltb (length (w .buf)) (f .offset + f .len)) (endOf (withList (driverError DriverError.PastBuffer s) (w .list)) log (w .buf) out)
+    (endOf (withList (ended (Outcome.Ok (Success.Taken (f .len))) s) (w .list)) log (w .buf) (over out 0 (take (f .len) (drop (f .offset) (w .buf))))))

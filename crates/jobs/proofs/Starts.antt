@@ -14,12 +14,10 @@ use Rattle.wlan.specs.declared.DriverError.{DriverError}
 use Rattle.wlan.specs.declared.AsyncEvent.{AsyncEvent}
 use Rattle.wlan.specs.declared.State.{State}
 use Rattle.definition.specs.Bus.{Bytes}
-use Rattle.definition.specs.Prog.{World, Prog, stop}
+use Rattle.definition.specs.Prog.{World, stop}
 use Rattle.definition.specs.Request as def
-use Rattle.definition.specs.Poll.{Result}
 use Rattle.definition.specs.Join.{security, tooLong, authOf, join}
 use Rattle.definition.specs.Calls.{Call, call, send, gpio, mac, get, setting, variableSet, isInterface, isCommand}
-use Rattle.definition.specs.Run.{called, runOf}
 use Rattle.definition.proofs.Compose.{unroll}
 use Rattle.requests.specs.declared.Request.{Request}
 use Rattle.requests.specs.declared.IovarName.{IovarName}
@@ -37,18 +35,10 @@ use Rattle.control.proofs.Start as start
 use Rattle.handling.specs.Handle.{listHeard}
 use Rattle.send.specs.Meaning.{laidHeader}
 use Rattle.effects.specs.Args.{argsOf}
-use Rattle.turn.specs.Onward.{calledBy}
-use Rattle.jobs.specs.Jobs.{noJob, initJob, joinJob, frameJob, requestJob, plain, refused, singleStep}
-
-pub called-is : (c : Call) (w : World) (rec log : List ℕ) → calledBy w rec log (call c w) ≡ called c w rec log []
-unfolding calledBy called runOf
-called-is c w rec log = refl
+use Rattle.jobs.specs.Jobs.{noJob, initJob, joinJob, frameJob, requestJob, plain, invalidArg, single, cut}
 
 modest : (j : Job) → Modest (plain j)
 modest j = omega arith
-
-pub called-refused : (c : Call) (w : World) (rec log : List ℕ) → call c w ≡ refused DriverError.InvalidArg w → calledBy w rec log (refused DriverError.InvalidArg w) ≡ called c w rec log []
-called-refused c w rec log h = ap (calledBy w rec log) (sym h) ∙ called-is c w rec log
 
 -- a passphrase that is used has 128 bytes at most
 short : (x : WifiAuth) (n : ℕ) → security x .supplicant ≡ 1 → tooLong x n ≡ false → n ≤ 128
@@ -81,15 +71,15 @@ module _ (e : AsyncEvent) (w : World) where
   unfolding call
   poll-is = start.poll-start-is (plain noJob) (modest noJob) e w
 
-  -- refused before any operation
-  pub refused-is : (x : DriverError) → unroll (refused x w) ≡ callShown (plain noJob) (refuses (w .st) false Before.None x) e w
+  -- refused before any operation, whatever the byte arguments
+  pub refused-is : (c : Call) (first second : Bytes) → call c w ≡ stop DriverError.InvalidArg w → unroll (call c w) ≡ callShown (argsOf noJob first second) (refuses (w .st) false Before.None DriverError.InvalidArg) e w
   unfolding unroll callTree laidBefore laidRequest laidHeader laidAll listHeard listAt
-  refused-is x = refl
+  refused-is c first second h = rw h
 
   -- ---- one exchange
 
   abbrev Single : Call → Request → Ending → Type 0
-  Single c r x = unroll (call c w) ≡ callShown (plain (requestJob r x)) (singleStep r x [] [] (w .st)) e w
+  Single c r x = unroll (call c w) ≡ callShown (plain (requestJob r x)) (single r x (lensOf (plain (requestJob r x))) (w .st) .step) e w
 
   pub up-is : Single Call.up Request.Up Ending.Done
   unfolding call successOf
@@ -113,7 +103,7 @@ module _ (e : AsyncEvent) (w : World) where
       let r : Request = Request.IovarPair IovarName.Gpioout bit value in
       rw (lt-ltb pin 3 h, ← hv, ← hb) (start.single-is (plain (requestJob r Ending.Done)) (modest (requestJob r Ending.Done)) e w)
 
-  pub variable-is : (i : ℕ) (name bytes : Bytes) → isInterface i ≡ true → length name + 1 + length bytes ≤ 2020 → unroll (call (Call.writeIovar i name bytes) w) ≡ callShown (argsOf (requestJob (Request.Variable i) Ending.Done) name bytes) (singleStep (Request.Variable i) Ending.Done name bytes (w .st)) e w
+  pub variable-is : (i : ℕ) (name bytes : Bytes) → isInterface i ≡ true → length name + 1 + length bytes ≤ 2020 → unroll (call (Call.writeIovar i name bytes) w) ≡ callShown (argsOf (requestJob (Request.Variable i) Ending.Done) name bytes) (single (Request.Variable i) Ending.Done (lensOf (argsOf (requestJob (Request.Variable i) Ending.Done) name bytes)) (w .st) .step) e w
   unfolding call variableSet successOf
   variable-is i name bytes h k =
       rw (h, le-leb (length name + 1 + length bytes) 2020 k) (start.single-is (argsOf (requestJob (Request.Variable i) Ending.Done) name bytes) (omega arith) e w)
@@ -149,7 +139,7 @@ module _ (e : AsyncEvent) (w : World) where
   -- ---- arguments that are refused
 
   abbrev Bad : Call → Type 0
-  Bad c = call c w ≡ refused DriverError.InvalidArg w
+  Bad c = call c w ≡ stop DriverError.InvalidArg w
 
   pub get-bad : (cmd i : ℕ) → (isCommand cmd && isInterface i) ≡ false → Bad (Call.getIoctl cmd i)
   unfolding call get
@@ -174,3 +164,8 @@ module _ (e : AsyncEvent) (w : World) where
   pub join-bad : (auth : ℕ) (ssid passphrase : Bytes) → 6 ≤ auth → Bad (Call.wifiConnect auth ssid passphrase)
   unfolding call join
   join-bad auth ssid passphrase h = rw (le-ltb auth 6 h)
+
+-- an argument that is not too long is handed on whole
+pub cut-whole : (max : ℕ) (s : Bytes) → length s ≤ max → take (cut max (length s)) s ≡ s
+unfolding cut
+cut-whole max s h = rw (le-leb (length s) max h) (take-all (length s) s (omega arith))

@@ -1,22 +1,31 @@
--- What each call hands to the run beside its byte arguments.
+-- What each call hands to the run beside its byte arguments, and when a step is a call's first.
 use Prim.Native.Nat.{ℕ, _+_}
+use mathlib.Core.Path.{_≡_}
 use mathlib.Core.Bool.{Bool, true, false}
 use mathlib.Core.List.{[]}
+use lib.Dec.{leb}
+use Rattle.slices.specs.Pick.{pick}
 use Rattle.wlan.specs.declared.WifiAuth.{WifiAuth}
 use Rattle.wlan.specs.declared.DriverError.{DriverError}
+use Rattle.wlan.specs.declared.ScanList.{ScanList}
 use Rattle.wlan.specs.declared.State.{State}
 use Rattle.definition.specs.Bus.{Bytes}
-use Rattle.definition.specs.Prog.{World, Prog, stop}
-use Rattle.definition.specs.Poll.{Result}
+use Rattle.definition.specs.Event.{eventOf}
+use Rattle.definition.specs.Prog.{world}
+use Rattle.definition.specs.Calls.{Call, call}
+use Rattle.definition.proofs.Compose.{unroll}
 use Rattle.requests.specs.declared.Request.{Request}
+use Rattle.control.specs.declared.Before.{Before}
 use Rattle.control.specs.declared.Ending.{Ending}
 use Rattle.control.specs.declared.Job.{Job}
 use Rattle.control.specs.declared.Lens.{Lens}
 use Rattle.control.specs.declared.CallStep.{CallStep}
 use Rattle.control.specs.declared.Stage.{Stage}
+use Rattle.control.specs.Steps.{refuses}
 use Rattle.control.specs.Begin.{exchangesStep}
-use Rattle.control.specs.Meaning.{Args, lensOf}
+use Rattle.control.specs.Meaning.{Args, callShown}
 use Rattle.effects.specs.Args.{argsOf}
+use Rattle.jobs.specs.declared.Begun.{Begun}
 
 abbrev jobOf : ℕ → WifiAuth → Bool → Bool → ℕ → Request → Ending → Job
 jobOf c a p s n r e =
@@ -45,9 +54,23 @@ plain j = argsOf j [] []
 abbrev pub noLens : Lens
 noLens = record { first = 0; second = 0 }
 
--- the step that begins the exchange of a request
-abbrev pub singleStep : Request → Ending → Bytes → Bytes → State → CallStep
-singleStep r e first second s = exchangesStep (requestJob r e) (lensOf (argsOf (requestJob r e) first second)) Stage.Single s
+abbrev begun : Job → CallStep → Begun
+begun j s = record { job = j; step = s }
 
-abbrev pub refused : DriverError → World → Prog Result
-refused x w = stop x w
+abbrev pub invalidArg : State → Begun
+invalidArg s = begun noJob (refuses s false Before.None DriverError.InvalidArg)
+
+abbrev pub exchanging : Job → Lens → Stage → State → Begun
+exchanging j l g s = begun j (exchangesStep j l g s)
+
+abbrev pub single : Request → Ending → Lens → State → Begun
+single r e l s = exchanging (requestJob r e) l Stage.Single s
+
+-- a length where it is at most max, else 0: a longer argument is refused without being used
+unfoldable pub cut : ℕ → ℕ → ℕ
+cut max n = pick (leb n max) n 0
+
+-- the step is the front of the call's tree, in every world of that state
+abbrev pub Begins : Call → Bytes → Bytes → State → Begun → Type 0
+Begins c first second s b =
+    (buf : Bytes) (l : ScanList) → unroll (call c (world s buf l)) ≡ callShown (argsOf (b .job) first second) (b .step) (eventOf [] 0) (world s buf l)

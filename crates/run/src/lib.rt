@@ -1,5 +1,4 @@
-// A call run on a recording, operation by operation, to its end or back.
-pub mod call;
+// A run on a recording, operation by operation.
 pub mod heard;
 pub mod run;
 

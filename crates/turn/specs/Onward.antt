@@ -30,6 +30,7 @@ use Rattle.effects.specs.Answer.{isWait}
 use Rattle.turn.specs.declared.Standing.{Standing}
 use Rattle.turn.specs.declared.RunNext.{RunNext}
 use Rattle.turn.specs.declared.Running.{Running}
+use Rattle.turn.specs.declared.StateEnd.{StateEnd}
 use Rattle.turn.specs.declared.CallEnd.{CallEnd}
 
 -- what a run shows, its log from index len on; a call that runs has no output
@@ -86,6 +87,15 @@ calledBy w rec log p =
 -- what a call hands back, with its lent slices
 abbrev pub endOf : CallEnd → List ℕ → Bytes → Bytes → End
 endOf x log b out = record { outcome = x .outcome; st = x .st; list = x .list; buf = b; log = log; len = x .len; output = out }
+
+abbrev pub withList : StateEnd → ScanList → CallEnd
+withList x l = record { outcome = x .outcome; st = x .st; list = l; len = x .len }
+
+-- the scan list at a call's end: the latest, or as before the call
+unfoldable pub listEnd : RunNext → ScanList → ScanList → ScanList
+listEnd (RunNext.At p) latest l = latest
+listEnd (RunNext.Over o) latest l = latest
+listEnd (RunNext.Back r) latest l = l
 
 -- ---- what the run's parts compute
 

@@ -33,7 +33,14 @@ pub struct Running {
     pub event: AsyncEvent,
 }
 
-// What a call hands back beside its lent slices; len: the words of the log.
+// What a call hands back beside its lent slices and the scan list; len: the words of the log.
+pub struct StateEnd {
+    pub outcome: Outcome,
+    pub st: State,
+    pub len: usize,
+}
+
+// What a call hands back beside its lent slices.
 pub struct CallEnd {
     pub outcome: Outcome,
     pub st: State,

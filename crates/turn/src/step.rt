@@ -6,8 +6,8 @@ use control::CallNext;
 use control::CallPoint;
 use control::CallStep;
 use control::Job;
-use control::Lens;
 use effects::arrival::arrival;
+use effects::args::lens;
 use effects::arrival::no_event;
 use effects::lay::lay;
 use effects::outcome::success_of;
@@ -27,7 +27,7 @@ ghost use Rattle.device.specs.Meaning.{told, landing, InRange};
 ghost use Rattle.wlan.specs.declared.ScanList as list;
 ghost use Rattle.control.specs.declared.Job as job;
 ghost use Rattle.control.specs.Steps.{callOp};
-ghost use Rattle.control.specs.Meaning.{lensOf, laidAll, Kc};
+ghost use Rattle.control.specs.Meaning.{laidAll, Kc};
 ghost use Rattle.effects.specs.Args.{argsOf};
 ghost use Rattle.turn.specs.Onward as to;
 
@@ -82,16 +82,6 @@ pub fn take_step(
         heard: s.heard,
         clear: s.clear,
         event: e,
-    }
-}
-
-pub fn lens(first: &[u8], second: &[u8]) -> Lens
-    requires { ⌜ length (now first) + length (now second) < 60000 ⌝ }
-    ensures { λ r. ⌜ ((j : job.Job) → r ≡ lensOf (argsOf j (now (first .entry)) (now (second .entry)))) ⌝ }
-{
-    Lens {
-        first: first.len() as u16,
-        second: second.len() as u16,
     }
 }
 

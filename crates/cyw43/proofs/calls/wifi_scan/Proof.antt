@@ -1,43 +1,34 @@
-use mathlib.Core.Path.{_∙_}
-use mathlib.Core.List.{[]}
-use Prim.Native.Nat.{_-_}
-use Rattle.definition.specs.Event.{eventOf}
-use Rattle.definition.specs.Prog.{world}
-use Rattle.definition.specs.Calls.{Call, call}
-use Rattle.jobs.proofs.Starts as law
+-- <<
+use Rattle.definition.specs.Calls.{Call}
+-- >>
 use borrow.Author.Needs.{needs}
 use Rattle.cyw43.proofs.calls.wifi_scan.Statement.{statement}
 use Rattle.cyw43.proofs.calls.wifi_scan.Tie as tie
+use Rattle.cyw43.proofs.calls.wifi_scan.Reads as reads
+use Rattle.cyw43.proofs.calls.wifi_scan.Lts as lts
+use Rattle.call.proofs.plain.Reads as plain-reads
+use Rattle.jobs.proofs.plain.scan_begun.Reads as scan-begun-reads
 
-no-job-requires : tie.Need-no-job-requires
-no-job-requires c κs = search needs
+-- src/calls.rt:36:11
+scan-begun-requires : tie.Need-scan-begun-requires
+scan-begun-requires c κs = search needs
 
-no-lens-requires : tie.Need-no-lens-requires
-no-lens-requires c κs = search needs
+-- src/calls.rt:36:5
+plain-requires : tie.Need-plain-requires
+plain-requires c κs = search needs
 
-scan-start-requires : tie.Need-scan-start-requires
-scan-start-requires c κs = search needs
-
-plain-call-requires : tie.Need-plain-call-requires
-plain-call-requires c κs = search needs
-
+-- src/calls.rt:33:1
 same-length : tie.Need-same-length
 same-length c = search needs
 
+-- src/calls.rt:33:1
 same-length-2 : tie.Need-same-length-2
 same-length-2 c = search needs
 
+-- src/calls.rt:33:1
 returns : tie.Need-returns
-returns c = c .before .before .before .before .plain-call .ensures (call Call.wifiScan (world (c .before .before .before .before .before .before .before .before .before .before .before .before .before .args .st) (c .before .before .before .before .before .before .before .before .before .before .before .before .before .args .buf .now) (c .before .before .before .before .before .before .before .before .before .before .before .before .before .args .list))) (rw (c .before .before .before .before .before .before .before .scan-start .ensures, c .before .before .before .before .before .before .before .before .no-lens .ensures, c .before .before .before .before .before .before .before .before .before .no-job .ensures) (law.scan-is (eventOf [] 0) (world (c .before .before .before .before .before .before .before .before .before .before .before .before .before .args .st) (c .before .before .before .before .before .before .before .before .before .before .before .before .before .args .buf .now) (c .before .before .before .before .before .before .before .before .before .before .before .before .before .args .list)))) ∙ law.called-is Call.wifiScan (world (c .before .before .before .before .before .before .before .before .before .before .before .before .before .args .st) (c .before .before .before .before .before .before .before .before .before .before .before .before .before .args .buf .now) (c .before .before .before .before .before .before .before .before .before .before .before .before .before .args .list)) (c .before .before .before .before .before .before .before .before .before .before .before .before .before .args .rec .now) (c .before .before .before .before .before .before .before .before .before .before .before .before .before .args .log .now)
+returns c = c .before .before .before .before .plain .ensures (Call.wifiScan) (c .before .before .before .before .before .before .before .scan-begun .ensures)
 
 pub wifi-scan-spec : {M : Type 1} → statement M
 wifi-scan-spec =
-    tie.close
-    (tie.spec
-    no-job-requires
-    no-lens-requires
-    scan-start-requires
-    plain-call-requires
-    same-length
-    same-length-2
-    returns)
+    tie.close (tie.spec scan-begun-requires plain-requires same-length same-length-2 returns)

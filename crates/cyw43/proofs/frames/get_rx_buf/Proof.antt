@@ -1,48 +1,29 @@
-use mathlib.Core.Path.{_∙_}
-use Prim.Native.Nat.{_-_}
-use Rattle.definition.specs.Prog.{world}
-use Rattle.ending.proofs.Takes as take
+-- <<
+
+-- >>
 use borrow.Author.Needs.{needs}
 use Rattle.cyw43.proofs.frames.get_rx_buf.Statement.{statement}
 use Rattle.cyw43.proofs.frames.get_rx_buf.Tie as tie
+use Rattle.cyw43.proofs.frames.get_rx_buf.Reads as reads
+use Rattle.cyw43.proofs.frames.get_rx_buf.Lts as lts
+use Rattle.ending.proofs.take.take.Reads as take-reads
+use Rattle.ending.proofs.wind.with_list.Reads as with-list-reads
 
-ended-requires : tie.Need-ended-requires
-ended-requires c κs = search needs
+-- src/frames.rt:40:15
+take-requires : tie.Need-take-requires
+take-requires c κs = search needs
 
-returns : tie.Need-returns
-returns c = λ rec log. rw (c .ended .ensures) (take.take-13 (world (c .before .before .before .before .args .st) (c .before .before .before .before .args .buf .now) (c .before .before .before .before .args .list)) rec log (c .before .before .before .before .args .out .now) (c .before .if1 .taken))
+-- src/frames.rt:40:5
+with-list-requires : tie.Need-with-list-requires
+with-list-requires c κs = search needs
 
-enum-told : tie.Need-enum-told
-enum-told c = search needs
-
-driver-error-requires : tie.Need-driver-error-requires
-driver-error-requires c κs = search needs
-
-enum-known-rx : tie.Need-enum-known-rx
-enum-known-rx c = search needs
-
-take-frame-requires : tie.Need-take-frame-requires
-take-frame-requires c κs = search needs
-
-returns-2 : tie.Need-returns-2
-returns-2 c = λ rec log. rw (c .driver-error .ensures) (take.take-none (world (c .before .before .before .before .before .before .before .args .st) (c .before .before .before .before .before .before .before .args .buf .now) (c .before .before .before .before .before .before .before .args .list)) rec log (c .before .before .before .before .before .before .before .args .out .now) (c .before .before .before .before .if1 .left) (c .before .enum-told .given .1))
-
+-- src/frames.rt:37:1
 same-length : tie.Need-same-length
 same-length c = search needs
 
-returns-3 : tie.Need-returns-3
-returns-3 c = λ rec log. c .before .before .take-frame .ensures log ∙ take.take-some (world (c .before .before .before .before .before .before .before .before .before .before .before .args .st) (c .before .before .before .before .before .before .before .before .before .before .before .args .buf .now) (c .before .before .before .before .before .before .before .before .before .before .before .args .list)) rec log (c .before .before .before .before .before .before .before .before .before .before .before .args .out .now) (c .before .before .before .before .before .before .before .before .if1 .left) _ (c .before .before .before .before .before .rx .given .1)
+-- src/frames.rt:37:1
+returns : tie.Need-returns
+returns c = λ rec log. rw (c .with-list .ensures) (c .before .before .before .take .ensures rec log (c .before .before .before .before .before .before .before .args .list))
 
 pub get-rx-buf-spec : {M : Type 1} → statement M
-get-rx-buf-spec =
-    tie.close
-    (tie.spec
-    ended-requires
-    returns
-    enum-told
-    driver-error-requires
-    enum-known-rx
-    take-frame-requires
-    returns-2
-    same-length
-    returns-3)
+get-rx-buf-spec = tie.close (tie.spec take-requires with-list-requires same-length returns)

@@ -1,25 +1,33 @@
-use mathlib.Core.Path.{_∙_}
-use mathlib.Core.List.{[]}
-use Prim.Native.Nat.{_-_}
-use Rattle.definition.specs.Event.{eventOf}
-use Rattle.definition.specs.Prog.{world}
-use Rattle.definition.specs.Calls.{Call, call}
-use Rattle.jobs.proofs.Starts as law
+-- <<
+use Rattle.definition.specs.Calls.{Call}
+-- >>
 use borrow.Author.Needs.{needs}
 use Rattle.cyw43.proofs.ioctls.up.Statement.{statement}
 use Rattle.cyw43.proofs.ioctls.up.Tie as tie
+use Rattle.cyw43.proofs.ioctls.up.Reads as reads
+use Rattle.cyw43.proofs.ioctls.up.Lts as lts
+use Rattle.call.proofs.plain.Reads as plain-reads
+use Rattle.jobs.proofs.plain.up_begun.Reads as up-begun-reads
 
-exchange-call-requires : tie.Need-exchange-call-requires
-exchange-call-requires c κs = search needs
+-- src/ioctls.rt:104:11
+up-begun-requires : tie.Need-up-begun-requires
+up-begun-requires c κs = search needs
 
+-- src/ioctls.rt:104:5
+plain-requires : tie.Need-plain-requires
+plain-requires c κs = search needs
+
+-- src/ioctls.rt:101:1
 same-length : tie.Need-same-length
 same-length c = search needs
 
+-- src/ioctls.rt:101:1
 same-length-2 : tie.Need-same-length-2
 same-length-2 c = search needs
 
+-- src/ioctls.rt:101:1
 returns : tie.Need-returns
-returns c = c .before .before .before .before .exchange-call .ensures (call Call.up (world (c .before .before .before .before .before .before .before .before .before .before .args .st) (c .before .before .before .before .before .before .before .before .before .before .args .buf .now) (c .before .before .before .before .before .before .before .before .before .before .args .list))) (law.up-is (eventOf [] 0) (world (c .before .before .before .before .before .before .before .before .before .before .args .st) (c .before .before .before .before .before .before .before .before .before .before .args .buf .now) (c .before .before .before .before .before .before .before .before .before .before .args .list))) ∙ law.called-is Call.up (world (c .before .before .before .before .before .before .before .before .before .before .args .st) (c .before .before .before .before .before .before .before .before .before .before .args .buf .now) (c .before .before .before .before .before .before .before .before .before .before .args .list)) (c .before .before .before .before .before .before .before .before .before .before .args .rec .now) (c .before .before .before .before .before .before .before .before .before .before .args .log .now)
+returns c = c .before .before .before .before .plain .ensures (Call.up) (c .before .before .before .before .before .before .before .up-begun .ensures)
 
 pub up-spec : {M : Type 1} → statement M
-up-spec = tie.close (tie.spec exchange-call-requires same-length same-length-2 returns)
+up-spec = tie.close (tie.spec up-begun-requires plain-requires same-length same-length-2 returns)

@@ -1,91 +1,63 @@
-use mathlib.Core.Path.{sym, _∙_}
-use mathlib.Core.List.{[]}
-use Prim.Native.Nat.{_-_}
-use borrow.Author.Tests.{lt-leb}
-use Rattle.definition.specs.Event.{eventOf}
-use Rattle.definition.specs.Prog.{world}
-use Rattle.definition.specs.Calls.{Call, call}
-use Rattle.requests.specs.declared.Request.{Request}
-use Rattle.control.specs.declared.Ending.{Ending}
-use Rattle.jobs.specs.Jobs as to
-use Rattle.jobs.proofs.Starts as law
+-- <<
+use Rattle.definition.specs.Calls.{Call}
+use native.Mathlib.Omega.{arith}
+use lib.ListN.{length-take}
+-- >>
 use borrow.Author.Needs.{needs}
 use Rattle.cyw43.proofs.ioctls.write_iovar.Statement.{statement}
 use Rattle.cyw43.proofs.ioctls.write_iovar.Tie as tie
+use Rattle.cyw43.proofs.ioctls.write_iovar.Reads as reads
+use Rattle.cyw43.proofs.ioctls.write_iovar.Lts as lts
+use Rattle.call.proofs.whole.Reads as whole-reads
+use Rattle.jobs.proofs.bytes.at_most.Reads as at-most-reads
+use Rattle.jobs.proofs.bytes.variable_begun.Reads as variable-begun-reads
 
-is-interface-requires : tie.Need-is-interface-requires
-is-interface-requires c κs = search needs
+-- src/ioctls.rt:95:9
+at-most-requires : tie.Need-at-most-requires
+at-most-requires c κs = search needs
 
-add-if2 : tie.Need-add-if2
-add-if2 c = search needs
+-- src/ioctls.rt:96:9
+at-most-requires-2 : tie.Need-at-most-requires-2
+at-most-requires-2 c κs = search needs
 
-add-if2-2 : tie.Need-add-if2-2
-add-if2-2 c = search needs
+-- src/ioctls.rt:97:9
+variable-begun-requires : tie.Need-variable-begun-requires
+variable-begun-requires c κs = search needs
 
-request-job-requires : tie.Need-request-job-requires
-request-job-requires c κs = search needs
+-- src/ioctls.rt:98:14
+slice-aggregate-whole : tie.Need-slice-aggregate-whole
+slice-aggregate-whole c = omega (arith, length-take (c .before .before .before .at-most .result) (c .before .before .before .before .before .before .before .before .before .args .name .now), c .before .before .before .at-most .ensures .1 .2)
 
-lens-requires : tie.Need-lens-requires
-lens-requires c κs = search needs
+-- src/ioctls.rt:98:26
+slice-aggregate-whole-2 : tie.Need-slice-aggregate-whole-2
+slice-aggregate-whole-2 c = omega (arith, length-take (c .before .before .before .at-most2 .result) (c .before .before .before .before .before .before .before .before .before .before .args .bytes .now), c .before .before .before .at-most2 .ensures .1 .2)
 
-exchanges-requires : tie.Need-exchanges-requires
-exchanges-requires c κs = search needs
+-- src/ioctls.rt:98:5
+whole-requires : tie.Need-whole-requires
+whole-requires c κs = omega (arith, length-take (c .before .before .before .before .before .before .at-most .result) (c .before .before .before .before .before .before .before .before .before .before .before .before .args .name .now), c .before .before .before .before .before .before .at-most .ensures .1 .1, length-take (c .before .before .before .before .before .at-most2 .result) (c .before .before .before .before .before .before .before .before .before .before .before .before .args .bytes .now), c .before .before .before .before .before .at-most2 .ensures .1 .1)
 
-call-from-requires : tie.Need-call-from-requires
-call-from-requires c κs = search needs
-
+-- src/ioctls.rt:83:1
 same-length : tie.Need-same-length
 same-length c = search needs
 
+-- src/ioctls.rt:83:1
 same-length-2 : tie.Need-same-length-2
 same-length-2 c = search needs
 
+-- src/ioctls.rt:83:1
 returns : tie.Need-returns
-returns c = c .before .before .before .before .call-from .ensures (call (Call.writeIovar (c .before .before .before .before .before .before .before .before .before .before .before .before .before .before .before .before .before .before .args .interface) (c .before .before .before .before .before .before .before .before .before .before .before .before .before .before .before .before .before .before .args .name .now) (c .before .before .before .before .before .before .before .before .before .before .before .before .before .before .before .before .before .before .args .bytes .now)) (world (c .before .before .before .before .before .before .before .before .before .before .before .before .before .before .before .before .before .before .args .st) (c .before .before .before .before .before .before .before .before .before .before .before .before .before .before .before .before .before .before .args .buf .now) (c .before .before .before .before .before .before .before .before .before .before .before .before .before .before .before .before .before .before .args .list))) (rw (c .before .before .before .before .before .before .before .exchanges .ensures, c .before .before .before .before .before .before .before .before .lens .ensures (to.requestJob (Request.Variable (c .before .before .before .before .before .before .before .before .before .before .before .before .before .before .before .before .before .before .args .interface)) Ending.Done), c .before .before .before .before .before .before .before .before .before .request-job .ensures) (law.variable-is (eventOf [] 0) (world (c .before .before .before .before .before .before .before .before .before .before .before .before .before .before .before .before .before .before .args .st) (c .before .before .before .before .before .before .before .before .before .before .before .before .before .before .before .before .before .before .args .buf .now) (c .before .before .before .before .before .before .before .before .before .before .before .before .before .before .before .before .before .before .args .list)) (c .before .before .before .before .before .before .before .before .before .before .before .before .before .before .before .before .before .before .args .interface) (c .before .before .before .before .before .before .before .before .before .before .before .before .before .before .before .before .before .before .args .name .now) (c .before .before .before .before .before .before .before .before .before .before .before .before .before .before .before .before .before .before .args .bytes .now) (sym (c .before .before .before .before .before .before .before .before .before .before .before .before .is-interface .ensures) ∙ c .before .before .before .before .before .before .before .before .before .before .before .if1 .taken) (c .before .before .before .before .before .before .before .before .before .before .if2 .taken))) ∙ law.called-is (Call.writeIovar (c .before .before .before .before .before .before .before .before .before .before .before .before .before .before .before .before .before .before .args .interface) (c .before .before .before .before .before .before .before .before .before .before .before .before .before .before .before .before .before .before .args .name .now) (c .before .before .before .before .before .before .before .before .before .before .before .before .before .before .before .before .before .before .args .bytes .now)) (world (c .before .before .before .before .before .before .before .before .before .before .before .before .before .before .before .before .before .before .args .st) (c .before .before .before .before .before .before .before .before .before .before .before .before .before .before .before .before .before .before .args .buf .now) (c .before .before .before .before .before .before .before .before .before .before .before .before .before .before .before .before .before .before .args .list)) (c .before .before .before .before .before .before .before .before .before .before .before .before .before .before .before .before .before .before .args .rec .now) (c .before .before .before .before .before .before .before .before .before .before .before .before .before .before .before .before .before .before .args .log .now)
-
-invalid-arg-requires : tie.Need-invalid-arg-requires
-invalid-arg-requires c κs = search needs
-
-same-length-3 : tie.Need-same-length-3
-same-length-3 c = search needs
-
-same-length-4 : tie.Need-same-length-4
-same-length-4 c = search needs
-
-returns-2 : tie.Need-returns-2
-returns-2 c = c .before .before .before .before .invalid-arg .ensures ∙ law.called-refused (Call.writeIovar (c .before .before .before .before .before .before .before .before .before .before .before .before .before .before .before .args .interface) (c .before .before .before .before .before .before .before .before .before .before .before .before .before .before .before .args .name .now) (c .before .before .before .before .before .before .before .before .before .before .before .before .before .before .before .args .bytes .now)) (world (c .before .before .before .before .before .before .before .before .before .before .before .before .before .before .before .args .st) (c .before .before .before .before .before .before .before .before .before .before .before .before .before .before .before .args .buf .now) (c .before .before .before .before .before .before .before .before .before .before .before .before .before .before .before .args .list)) (c .before .before .before .before .before .before .before .before .before .before .before .before .before .before .before .args .rec .now) (c .before .before .before .before .before .before .before .before .before .before .before .before .before .before .before .args .log .now) (law.variable-bad (eventOf [] 0) (world (c .before .before .before .before .before .before .before .before .before .before .before .before .before .before .before .args .st) (c .before .before .before .before .before .before .before .before .before .before .before .before .before .before .before .args .buf .now) (c .before .before .before .before .before .before .before .before .before .before .before .before .before .before .before .args .list)) (c .before .before .before .before .before .before .before .before .before .before .before .before .before .before .before .args .interface) (c .before .before .before .before .before .before .before .before .before .before .before .before .before .before .before .args .name .now) (c .before .before .before .before .before .before .before .before .before .before .before .before .before .before .before .args .bytes .now) (rw (sym (c .before .before .before .before .before .before .before .before .before .is-interface .ensures) ∙ c .before .before .before .before .before .before .before .before .if1 .taken, lt-leb _ _ (c .before .before .before .before .before .before .before .if2 .left))))
-
-invalid-arg-requires-2 : tie.Need-invalid-arg-requires-2
-invalid-arg-requires-2 c κs = search needs
-
-same-length-5 : tie.Need-same-length-5
-same-length-5 c = search needs
-
-same-length-6 : tie.Need-same-length-6
-same-length-6 c = search needs
-
-returns-3 : tie.Need-returns-3
-returns-3 c = c .before .before .before .before .invalid-arg2 .ensures ∙ law.called-refused (Call.writeIovar (c .before .before .before .before .before .before .before .before .before .before .before .before .before .before .args .interface) (c .before .before .before .before .before .before .before .before .before .before .before .before .before .before .args .name .now) (c .before .before .before .before .before .before .before .before .before .before .before .before .before .before .args .bytes .now)) (world (c .before .before .before .before .before .before .before .before .before .before .before .before .before .before .args .st) (c .before .before .before .before .before .before .before .before .before .before .before .before .before .before .args .buf .now) (c .before .before .before .before .before .before .before .before .before .before .before .before .before .before .args .list)) (c .before .before .before .before .before .before .before .before .before .before .before .before .before .before .args .rec .now) (c .before .before .before .before .before .before .before .before .before .before .before .before .before .before .args .log .now) (law.variable-bad (eventOf [] 0) (world (c .before .before .before .before .before .before .before .before .before .before .before .before .before .before .args .st) (c .before .before .before .before .before .before .before .before .before .before .before .before .before .before .args .buf .now) (c .before .before .before .before .before .before .before .before .before .before .before .before .before .before .args .list)) (c .before .before .before .before .before .before .before .before .before .before .before .before .before .before .args .interface) (c .before .before .before .before .before .before .before .before .before .before .before .before .before .before .args .name .now) (c .before .before .before .before .before .before .before .before .before .before .before .before .before .before .args .bytes .now) (rw (sym (c .before .before .before .before .before .before .before .before .is-interface .ensures) ∙ c .before .before .before .before .before .before .before .if1 .left)))
+returns c = c .before .before .before .before .whole .ensures (Call.writeIovar (c .before .before .before .before .before .before .before .before .before .before .before .before .before .before .before .before .before .args .interface) (c .before .before .before .before .before .before .before .before .before .before .before .before .before .before .before .before .before .args .name .now) (c .before .before .before .before .before .before .before .before .before .before .before .before .before .before .before .before .before .args .bytes .now)) (rw (c .before .before .before .before .before .before .before .before .before .before .before .at-most .ensures .0, c .before .before .before .before .before .before .before .before .before .before .at-most2 .ensures .0) (c .before .before .before .before .before .before .before .before .before .variable-begun .ensures))
 
 pub write-iovar-spec : {M : Type 1} → statement M
 write-iovar-spec =
     tie.close
     (tie.spec
-    is-interface-requires
-    add-if2
-    add-if2-2
-    request-job-requires
-    lens-requires
-    exchanges-requires
-    call-from-requires
+    at-most-requires
+    at-most-requires-2
+    variable-begun-requires
+    slice-aggregate-whole
+    slice-aggregate-whole-2
+    whole-requires
     same-length
     same-length-2
-    returns
-    invalid-arg-requires
-    same-length-3
-    same-length-4
-    returns-2
-    invalid-arg-requires-2
-    same-length-5
-    same-length-6
-    returns-3)
+    returns)

@@ -20,7 +20,7 @@ driver-error-requires c κs = search needs
 
 returns : tie.Need-returns
 unfolding frame.frameTaken
-returns c = λ log. rw (c .driver-error .ensures, c .before .before .before .before .frameless .ensures, lt-ltb _ _ (c .before .if1 .taken))
+returns c = λ log l. rw (c .driver-error .ensures, c .before .before .before .before .frameless .ensures, lt-ltb _ _ (c .before .if1 .taken))
 
 add-if2 : tie.Need-add-if2
 add-if2 c = search needs
@@ -30,7 +30,7 @@ driver-error-requires-2 c κs = search needs
 
 returns-2 : tie.Need-returns-2
 unfolding frame.frameTaken
-returns-2 c = λ log. rw (c .driver-error2 .ensures, c .before .before .before .before .before .frameless .ensures, le-ltb _ _ (c .before .before .if1 .left), lt-ltb _ _ (c .before .if2 .taken))
+returns-2 c = λ log l. rw (c .driver-error2 .ensures, c .before .before .before .before .before .frameless .ensures, le-ltb _ _ (c .before .before .if1 .left), lt-ltb _ _ (c .before .if2 .taken))
 
 add-copy-over : tie.Need-add-copy-over
 add-copy-over c = search needs
@@ -55,7 +55,7 @@ same-length c = search needs
 
 returns-3 : tie.Need-returns-3
 unfolding frame.frameTaken
-returns-3 c = λ log. rw (c .ended .ensures, c .before .before .before .before .before .before .before .before .before .before .frameless .ensures, le-ltb _ _ (c .before .before .before .before .before .before .before .if1 .left), le-ltb _ _ (c .before .before .before .before .before .before .if2 .left), c .before .before .before .copy-over .ensures, add-sub-cancel-left)
+returns-3 c = λ log l. rw (c .ended .ensures, c .before .before .before .before .before .before .before .before .before .before .frameless .ensures, le-ltb _ _ (c .before .before .before .before .before .before .before .if1 .left), le-ltb _ _ (c .before .before .before .before .before .before .if2 .left), c .before .before .before .copy-over .ensures, add-sub-cancel-left)
 
 pub take-frame-spec : {M : Type 1} → statement M
 take-frame-spec =

@@ -26,15 +26,15 @@ unfolding to.isOn
 returns c = let h = simp (c .enum-told .given .1) at (c .before .before .before .before .pre .1) in let z : _≡_ {A = ℕ} 0 1 = cc in absurd (omega arith)
 
 returns-2 : tie.Need-returns-2
-unfolding to.onwardBy
-returns-2 c = λ a rec log. simp (c .before .before .next .given .1) (law.ended-is _ (to.worldAt (c .before .before .before .before .before .before .args .at) (c .before .before .before .before .before .before .args .latest) (c .before .before .before .before .before .before .args .buf .now)) log (c .before .before .before .before .before .before .args .at .len))
+unfolding to.onwardBy to.listEnd
+returns-2 c = λ a rec log latest l. simp (c .before .before .next .given .1) (law.ended-is _ (to.worldAt (c .before .before .before .before .before .before .args .at) latest (c .before .before .before .before .before .before .args .buf .now)) log (c .before .before .before .before .before .before .args .at .len))
 
 same-length : tie.Need-same-length
 same-length c = search needs
 
 returns-3 : tie.Need-returns-3
-unfolding to.onwardBy
-returns-3 c = λ a rec log. simp (c .before .before .before .before .before .next2 .given .1, c .before .before .copy-over .ensures, over-whole (c .before .before .before .before .before .before .before .before .before .args .buf .now) (c .before .before .before .before .before .before .before .before .before .args .saved .now) (c .before .before .before .before .before .before .before .before .before .pre .0)) (law.ended-is _ (world (c .before .before .before .before .before .before .before .before .before .args .st) (c .before .before .before .before .before .before .before .before .before .args .saved .now) (c .before .before .before .before .before .before .before .before .before .args .list)) log (c .before .before .before .before .before .before .before .before .before .args .at .len))
+unfolding to.onwardBy to.listEnd
+returns-3 c = λ a rec log latest l. simp (c .before .before .before .before .before .next2 .given .1, c .before .before .copy-over .ensures, over-whole (c .before .before .before .before .before .before .before .before .before .args .buf .now) (c .before .before .before .before .before .before .before .before .before .args .saved .now) (c .before .before .before .before .before .before .before .before .before .pre .0)) (law.ended-is _ (world (c .before .before .before .before .before .before .before .before .before .args .st) (c .before .before .before .before .before .before .before .before .before .args .saved .now) l) log (c .before .before .before .before .before .before .before .before .before .args .at .len))
 
 pub wind-spec : {M : Type 1} → statement M
 wind-spec =
