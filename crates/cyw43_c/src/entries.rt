@@ -1,14 +1,17 @@
 // The entries. 100: the session's bytes are none.
-use crate::hand::hand_back;
-use cyw43::calls::wifi_poll;
-use cyw43::frames::get_rx_buf;
-use cyw43::frames::send_data;
 use cyw43::fresh::fresh_list;
 use cyw43::fresh::fresh_state;
+use ending::take::take;
+use entry::enter::enter;
+use entry::enter::enter_plain;
+use entry::hand::hand_state;
+use jobs::bytes::at_most;
+use jobs::bytes::send_begun;
+use jobs::plain::poll_begun;
 use session_bytes::session::Session;
 use session_bytes::session::is_session;
 use session_bytes::session::put_session;
-use session_bytes::session::session_in;
+use session_bytes::session::state_in;
 ghost use mathlib.Core.Path.{_≡_};
 ghost use mathlib.Core.List.{List, []};
 ghost use Prim.Native.Nat.{ℕ};
@@ -17,7 +20,7 @@ ghost use lib.ListN.{length};
 ghost use Rattle.slices.specs.Pick.{pick};
 ghost use Rattle.definition.specs.Calls.{Call};
 ghost use Rattle.session_bytes.specs.Session.{sessionBytes};
-ghost use Rattle.cyw43_c.specs.Entry.{shown, entered, freshSession};
+ghost use Rattle.entry.specs.Entry.{shown, entered, freshSession};
 
 // Where the bytes have a session's length, they become a fresh session's.
 #[no_mangle]
@@ -48,11 +51,8 @@ pub extern "C" fn cyw43_poll(
     ensures { λ r. ⌜ shown r (now (session .exit)) (now (log .exit)) (now (buf .exit)) [] (now (result .exit)) ≡ entered Call.wifiPoll (now (session .entry)) (now (rec .entry)) (now (log .entry)) (now (buf .entry)) [] (now (result .entry)) ⌝ }
 {
     if is_session(session) {
-        let s = session_in(session);
-        let st = s.st;
-        let list = s.list;
-        let e = wifi_poll(st, list, rec, log, buf);
-        return hand_back(e, session, result);
+        let st = state_in(session);
+        return enter_plain(poll_begun(st), st, session, rec, log, buf, result);
     }
     100
 }
@@ -70,11 +70,11 @@ pub extern "C" fn cyw43_send(
     ensures { λ r. ⌜ shown r (now (session .exit)) (now (log .exit)) (now (buf .exit)) [] (now (result .exit)) ≡ entered (Call.sendData interface (now (frame .entry))) (now (session .entry)) (now (rec .entry)) (now (log .entry)) (now (buf .entry)) [] (now (result .entry)) ⌝ }
 {
     if is_session(session) {
-        let s = session_in(session);
-        let st = s.st;
-        let list = s.list;
-        let e = send_data(interface, frame, st, list, rec, log, buf);
-        return hand_back(e, session, result);
+        let st = state_in(session);
+        let n = at_most(2030, frame.len());
+        let none = [0u8; 0];
+        let b = send_begun(interface, frame, st);
+        return enter(b, &frame[..n], &none, st, session, rec, log, buf, result);
     }
     100
 }
@@ -90,11 +90,8 @@ pub extern "C" fn cyw43_take(
     ensures { λ r. ⌜ ((rec log : List ℕ) → shown r (now (session .exit)) log (now (buf .entry)) (now (out .exit)) (now (result .exit)) ≡ entered (Call.getRxBuf (length (now (out .entry)))) (now (session .entry)) rec log (now (buf .entry)) (now (out .entry)) (now (result .entry))) ⌝ }
 {
     if is_session(session) {
-        let s = session_in(session);
-        let st = s.st;
-        let list = s.list;
-        let e = get_rx_buf(st, list, buf, out);
-        return hand_back(e, session, result);
+        let st = state_in(session);
+        return hand_state(take(st, buf, out), session, result);
     }
     100
 }

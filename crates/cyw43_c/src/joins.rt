@@ -1,16 +1,17 @@
 // init, scan, join, leave and abort.
-use crate::hand::hand_back;
-use cyw43::calls::wifi_abort_connect;
-use cyw43::calls::wifi_connect;
-use cyw43::calls::wifi_disconnect;
-use cyw43::calls::wifi_init;
-use cyw43::calls::wifi_scan;
+use entry::enter::enter;
+use entry::enter::enter_plain;
+use jobs::bytes::at_most;
+use jobs::bytes::join_begun;
+use jobs::plain::init_begun;
+use jobs::plain::leave_begun;
+use jobs::plain::scan_begun;
 use session_bytes::session::is_session;
-use session_bytes::session::session_in;
+use session_bytes::session::state_in;
 ghost use mathlib.Core.Path.{_≡_};
 ghost use mathlib.Core.List.{[]};
 ghost use Rattle.definition.specs.Calls.{Call};
-ghost use Rattle.cyw43_c.specs.Entry.{shown, entered};
+ghost use Rattle.entry.specs.Entry.{shown, entered};
 
 #[no_mangle]
 pub extern "C" fn cyw43_init(
@@ -24,11 +25,8 @@ pub extern "C" fn cyw43_init(
     ensures { λ r. ⌜ shown r (now (session .exit)) (now (log .exit)) (now (buf .exit)) [] (now (result .exit)) ≡ entered (Call.wifiInit country) (now (session .entry)) (now (rec .entry)) (now (log .entry)) (now (buf .entry)) [] (now (result .entry)) ⌝ }
 {
     if is_session(session) {
-        let s = session_in(session);
-        let st = s.st;
-        let list = s.list;
-        let e = wifi_init(country, st, list, rec, log, buf);
-        return hand_back(e, session, result);
+        let st = state_in(session);
+        return enter_plain(init_begun(country, st), st, session, rec, log, buf, result);
     }
     100
 }
@@ -44,11 +42,8 @@ pub extern "C" fn cyw43_scan(
     ensures { λ r. ⌜ shown r (now (session .exit)) (now (log .exit)) (now (buf .exit)) [] (now (result .exit)) ≡ entered Call.wifiScan (now (session .entry)) (now (rec .entry)) (now (log .entry)) (now (buf .entry)) [] (now (result .entry)) ⌝ }
 {
     if is_session(session) {
-        let s = session_in(session);
-        let st = s.st;
-        let list = s.list;
-        let e = wifi_scan(st, list, rec, log, buf);
-        return hand_back(e, session, result);
+        let st = state_in(session);
+        return enter_plain(scan_begun(st), st, session, rec, log, buf, result);
     }
     100
 }
@@ -67,11 +62,21 @@ pub extern "C" fn cyw43_join(
     ensures { λ r. ⌜ shown r (now (session .exit)) (now (log .exit)) (now (buf .exit)) [] (now (result .exit)) ≡ entered (Call.wifiConnect auth (now (ssid .entry)) (now (passphrase .entry))) (now (session .entry)) (now (rec .entry)) (now (log .entry)) (now (buf .entry)) [] (now (result .entry)) ⌝ }
 {
     if is_session(session) {
-        let s = session_in(session);
-        let st = s.st;
-        let list = s.list;
-        let e = wifi_connect(auth, ssid, passphrase, st, list, rec, log, buf);
-        return hand_back(e, session, result);
+        let st = state_in(session);
+        let n = at_most(32, ssid.len());
+        let m = at_most(128, passphrase.len());
+        let b = join_begun(auth, ssid, passphrase, st);
+        return enter(
+            b,
+            &ssid[..n],
+            &passphrase[..m],
+            st,
+            session,
+            rec,
+            log,
+            buf,
+            result,
+        );
     }
     100
 }
@@ -87,11 +92,8 @@ pub extern "C" fn cyw43_leave(
     ensures { λ r. ⌜ shown r (now (session .exit)) (now (log .exit)) (now (buf .exit)) [] (now (result .exit)) ≡ entered Call.wifiDisconnect (now (session .entry)) (now (rec .entry)) (now (log .entry)) (now (buf .entry)) [] (now (result .entry)) ⌝ }
 {
     if is_session(session) {
-        let s = session_in(session);
-        let st = s.st;
-        let list = s.list;
-        let e = wifi_disconnect(st, list, rec, log, buf);
-        return hand_back(e, session, result);
+        let st = state_in(session);
+        return enter_plain(leave_begun(st), st, session, rec, log, buf, result);
     }
     100
 }
@@ -107,11 +109,8 @@ pub extern "C" fn cyw43_abort(
     ensures { λ r. ⌜ shown r (now (session .exit)) (now (log .exit)) (now (buf .exit)) [] (now (result .exit)) ≡ entered Call.wifiAbortConnect (now (session .entry)) (now (rec .entry)) (now (log .entry)) (now (buf .entry)) [] (now (result .entry)) ⌝ }
 {
     if is_session(session) {
-        let s = session_in(session);
-        let st = s.st;
-        let list = s.list;
-        let e = wifi_abort_connect(st, list, rec, log, buf);
-        return hand_back(e, session, result);
+        let st = state_in(session);
+        return enter_plain(leave_begun(st), st, session, rec, log, buf, result);
     }
     100
 }

@@ -1,17 +1,19 @@
 // GPIO, MAC, get, set, variable and up.
-use crate::hand::hand_back;
-use cyw43::ioctls::get_ioctl;
-use cyw43::ioctls::get_mac_addr;
-use cyw43::ioctls::gpio_set;
-use cyw43::ioctls::set_ioctl;
-use cyw43::ioctls::up;
-use cyw43::ioctls::write_iovar;
+use entry::enter::enter;
+use entry::enter::enter_plain;
+use jobs::bytes::at_most;
+use jobs::bytes::variable_begun;
+use jobs::plain::get_begun;
+use jobs::plain::gpio_begun;
+use jobs::plain::mac_begun;
+use jobs::plain::set_begun;
+use jobs::plain::up_begun;
 use session_bytes::session::is_session;
-use session_bytes::session::session_in;
+use session_bytes::session::state_in;
 ghost use mathlib.Core.Path.{_≡_};
 ghost use mathlib.Core.List.{[]};
 ghost use Rattle.definition.specs.Calls.{Call};
-ghost use Rattle.cyw43_c.specs.Entry.{shown, entered};
+ghost use Rattle.entry.specs.Entry.{shown, entered};
 
 #[no_mangle]
 pub extern "C" fn cyw43_gpio(
@@ -26,11 +28,16 @@ pub extern "C" fn cyw43_gpio(
     ensures { λ r. ⌜ shown r (now (session .exit)) (now (log .exit)) (now (buf .exit)) [] (now (result .exit)) ≡ entered (Call.gpioSet pin level) (now (session .entry)) (now (rec .entry)) (now (log .entry)) (now (buf .entry)) [] (now (result .entry)) ⌝ }
 {
     if is_session(session) {
-        let s = session_in(session);
-        let st = s.st;
-        let list = s.list;
-        let e = gpio_set(pin, level, st, list, rec, log, buf);
-        return hand_back(e, session, result);
+        let st = state_in(session);
+        return enter_plain(
+            gpio_begun(pin, level, st),
+            st,
+            session,
+            rec,
+            log,
+            buf,
+            result,
+        );
     }
     100
 }
@@ -46,11 +53,8 @@ pub extern "C" fn cyw43_mac(
     ensures { λ r. ⌜ shown r (now (session .exit)) (now (log .exit)) (now (buf .exit)) [] (now (result .exit)) ≡ entered Call.getMacAddr (now (session .entry)) (now (rec .entry)) (now (log .entry)) (now (buf .entry)) [] (now (result .entry)) ⌝ }
 {
     if is_session(session) {
-        let s = session_in(session);
-        let st = s.st;
-        let list = s.list;
-        let e = get_mac_addr(st, list, rec, log, buf);
-        return hand_back(e, session, result);
+        let st = state_in(session);
+        return enter_plain(mac_begun(st), st, session, rec, log, buf, result);
     }
     100
 }
@@ -68,11 +72,16 @@ pub extern "C" fn cyw43_get(
     ensures { λ r. ⌜ shown r (now (session .exit)) (now (log .exit)) (now (buf .exit)) [] (now (result .exit)) ≡ entered (Call.getIoctl cmd interface) (now (session .entry)) (now (rec .entry)) (now (log .entry)) (now (buf .entry)) [] (now (result .entry)) ⌝ }
 {
     if is_session(session) {
-        let s = session_in(session);
-        let st = s.st;
-        let list = s.list;
-        let e = get_ioctl(cmd, interface, st, list, rec, log, buf);
-        return hand_back(e, session, result);
+        let st = state_in(session);
+        return enter_plain(
+            get_begun(cmd, interface, st),
+            st,
+            session,
+            rec,
+            log,
+            buf,
+            result,
+        );
     }
     100
 }
@@ -91,11 +100,16 @@ pub extern "C" fn cyw43_set(
     ensures { λ r. ⌜ shown r (now (session .exit)) (now (log .exit)) (now (buf .exit)) [] (now (result .exit)) ≡ entered (Call.setIoctl cmd value interface) (now (session .entry)) (now (rec .entry)) (now (log .entry)) (now (buf .entry)) [] (now (result .entry)) ⌝ }
 {
     if is_session(session) {
-        let s = session_in(session);
-        let st = s.st;
-        let list = s.list;
-        let e = set_ioctl(cmd, value, interface, st, list, rec, log, buf);
-        return hand_back(e, session, result);
+        let st = state_in(session);
+        return enter_plain(
+            set_begun(cmd, value, interface, st),
+            st,
+            session,
+            rec,
+            log,
+            buf,
+            result,
+        );
     }
     100
 }
@@ -114,11 +128,21 @@ pub extern "C" fn cyw43_variable(
     ensures { λ r. ⌜ shown r (now (session .exit)) (now (log .exit)) (now (buf .exit)) [] (now (result .exit)) ≡ entered (Call.writeIovar interface (now (name .entry)) (now (bytes .entry))) (now (session .entry)) (now (rec .entry)) (now (log .entry)) (now (buf .entry)) [] (now (result .entry)) ⌝ }
 {
     if is_session(session) {
-        let s = session_in(session);
-        let st = s.st;
-        let list = s.list;
-        let e = write_iovar(interface, name, bytes, st, list, rec, log, buf);
-        return hand_back(e, session, result);
+        let st = state_in(session);
+        let n = at_most(2020, name.len());
+        let m = at_most(2020, bytes.len());
+        let b = variable_begun(interface, name, bytes, st);
+        return enter(
+            b,
+            &name[..n],
+            &bytes[..m],
+            st,
+            session,
+            rec,
+            log,
+            buf,
+            result,
+        );
     }
     100
 }
@@ -134,11 +158,8 @@ pub extern "C" fn cyw43_up(
     ensures { λ r. ⌜ shown r (now (session .exit)) (now (log .exit)) (now (buf .exit)) [] (now (result .exit)) ≡ entered Call.up (now (session .entry)) (now (rec .entry)) (now (log .entry)) (now (buf .entry)) [] (now (result .entry)) ⌝ }
 {
     if is_session(session) {
-        let s = session_in(session);
-        let st = s.st;
-        let list = s.list;
-        let e = up(st, list, rec, log, buf);
-        return hand_back(e, session, result);
+        let st = state_in(session);
+        return enter_plain(up_begun(st), st, session, rec, log, buf, result);
     }
     100
 }

@@ -1,9 +1,9 @@
 // The beginnings of the calls with byte arguments: join, send, variable.
 use crate::Begun;
-use crate::plain::invalid_arg;
-use crate::plain::single;
 use crate::jobs::frame_job;
 use crate::jobs::join_job;
+use crate::plain::invalid_arg;
+use crate::plain::single;
 use control::Ending;
 use effects::args::lens;
 use inner::begin::frame_start;

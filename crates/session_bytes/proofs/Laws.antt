@@ -9,11 +9,11 @@ use native.Mathlib.Omega.{arith}
 use borrow.Author.Tests.{eq-eqb, eqb-true}
 use lib.Dec.{eqb}
 use lib.IntN.{ℤ}
-use lib.ListN.{length, take, drop, getD, length-append, length-take}
+use lib.ListN.{length, take, drop, getD, length-append, length-take, length-drop}
 use lib.Seq.{take-at, drop-at, drop-drop, drop-cons, take-suc, getD-append-add}
 use Rattle.slices.specs.Over.{over}
 use Rattle.slices.specs.Le.{le16At, le32At, signed16}
-use Rattle.slices.proofs.Over.{Run, run-more, over-append, over-whole, part-rest}
+use Rattle.slices.proofs.Over.{Run, run-more, over-append, over-nil, over-whole, part-rest}
 use Rattle.wlan.specs.declared.ScanRecord.{ScanRecord}
 use Rattle.wlan.specs.declared.ScanList.{ScanList}
 use Rattle.wlan.specs.declared.State.{State}
@@ -22,7 +22,7 @@ use Rattle.state_bytes.specs.StateBytes.{le64, frontBytes, pendingBytes, linkBy
 use Rattle.state_bytes.proofs.Laws.{length-state}
 use Rattle.session_bytes.specs.declared.session.Session.{Session}
 use Rattle.session_bytes.specs.ListBytes.{tailBytes, recordBytes, recordsBytes, listBytes, recordOf, recordsFrom, listIn, Whole, EachWhole}
-use Rattle.session_bytes.specs.Session.{sessionBytes, sessionIn, isSession}
+use Rattle.session_bytes.specs.Session.{sessionBytes, sessionIn, isSession, withState}
 
 -- ---- a record
 
@@ -202,3 +202,38 @@ session-length b h = eqb-true (length b) 1393 (and-left (eqb (length b) 1393) (s
 pub session-form : (b : List ℕ) → isSession b ≡ true → sessionBytes (sessionIn b) ≡ b
 unfolding isSession
 session-form b h = same-eq (sessionBytes (sessionIn b)) b (and-right (eqb (length b) 1393) (sameBytes (sessionBytes (sessionIn b)) b) h)
+
+-- ---- another state before the same list
+
+over-front : (a s t : List ℕ) → length a ≡ length s → over (a ++ t) 0 s ≡ s ++ t
+unfolding over
+over-front [] [] t h = over-nil t 0
+over-front [] (y ∷ s) t h = absurd (omega arith)
+over-front (x ∷ a) [] t h = absurd (omega arith)
+over-front (x ∷ a) (y ∷ s) t h = ap (λ (l : List ℕ). y ∷ l) (over-front a s t (omega arith))
+
+module _ (b : List ℕ) (h : isSession b ≡ true) where
+  list-rest : listBytes (sessionIn b .list) ≡ drop 41 b
+  unfolding sessionBytes
+  list-rest =
+      sym (drop-at (stateBytes (sessionIn b .st)) (listBytes (sessionIn b .list)) 41 (length-state (sessionIn b .st)))
+      ∙ ap (λ (l : List ℕ). drop 41 l) (session-form b h)
+
+  list-kept : listIn (listBytes (sessionIn b .list)) ≡ sessionIn b .list
+  unfolding sessionIn
+  list-kept = ap listIn list-rest
+
+  list-length : length (listBytes (sessionIn b .list)) ≡ 1352
+  list-length = rw list-rest (omega (arith, length-drop 41 b, session-length b h))
+
+  pub state-put : (s : State) {d : List ℕ} → d ≡ over b 0 (stateBytes s) → d ≡ sessionBytes (withState b s)
+  unfolding sessionBytes
+  state-put s e =
+      e ∙ ap (λ (l : List ℕ). over l 0 (stateBytes s)) (sym (session-form b h))
+      ∙ over-front (stateBytes (sessionIn b .st)) (stateBytes s) (listBytes (sessionIn b .list)) (length-state (sessionIn b .st) ∙ sym (length-state s))
+
+  pub state-back : (s : State) → stateIn (stateBytes s) ≡ s → sessionIn (sessionBytes (withState b s)) ≡ withState b s
+  state-back s e = session-back (withState b s) e list-kept
+
+  pub state-known : (s : State) → stateIn (stateBytes s) ≡ s → isSession (sessionBytes (withState b s)) ≡ true
+  state-known s e = session-known (withState b s) (session-size (withState b s) list-length) (state-back s e)

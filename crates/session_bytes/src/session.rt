@@ -16,14 +16,18 @@ pub struct Session {
     pub list: ScanList,
 }
 
-pub fn session_in(bytes: &[u8]) -> Session
+pub fn state_in(bytes: &[u8]) -> State
     requires { ⌜ length (now bytes) ≡ 1393 ⌝ }
-    ensures { λ s. ⌜ s ≡ to.sessionIn (now (bytes .entry)) ⌝ }
+    ensures { λ s. ⌜ s ≡ to.sessionIn (now (bytes .entry)) .st ⌝ }
 {
-    Session {
-        st: state_at(bytes),
-        list: list_in(&bytes[41..]),
-    }
+    state_at(bytes)
+}
+
+pub fn list_of(bytes: &[u8]) -> ScanList
+    requires { ⌜ length (now bytes) ≡ 1393 ⌝ }
+    ensures { λ l. ⌜ l ≡ to.sessionIn (now (bytes .entry)) .list ⌝ }
+{
+    list_in(&bytes[41..])
 }
 
 // What is read from the bytes is the session.
@@ -36,6 +40,15 @@ pub fn put_session(s: Session, out: &mut [u8])
     let list = s.list;
     put_state(st, out);
     put_list(list, out);
+}
+
+// The same where the list is the one that the bytes hold.
+pub fn put_state_in(st: State, out: &mut [u8])
+    requires { ⌜ to.isSession (now out) ≡ true ⌝ }
+    ensures put { λ _. ⌜ now (out .exit) ≡ to.sessionBytes (to.withState (now (out .entry)) st) ⌝ }
+    ensures back { λ _. ⌜ (to.isSession (to.sessionBytes (to.withState (now (out .entry)) st)) ≡ true) × (to.sessionIn (to.sessionBytes (to.withState (now (out .entry)) st)) ≡ to.withState (now (out .entry)) st) ⌝ }
+{
+    put_state(st, out);
 }
 
 fn same_bytes(a: &[u8], b: &[u8]) -> bool

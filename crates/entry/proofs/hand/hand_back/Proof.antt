@@ -1,8 +1,8 @@
 use Rattle.turn.specs.Onward.{endOf}
-use Rattle.cyw43_c.proofs.Laws.{handed-is}
+use Rattle.entry.proofs.Laws.{handed-is}
 use borrow.Author.Needs.{needs}
-use Rattle.cyw43_c.proofs.hand.hand_back.Statement.{statement}
-use Rattle.cyw43_c.proofs.hand.hand_back.Tie as tie
+use Rattle.entry.proofs.hand.hand_back.Statement.{statement}
+use Rattle.entry.proofs.hand.hand_back.Tie as tie
 
 put-session-requires : tie.Need-put-session-requires
 put-session-requires c κs = search needs

@@ -1,8 +1,8 @@
 use mathlib.Core.List.{[], _∷_}
 use Rattle.slices.proofs.Over.{over-append}
 use borrow.Author.Needs.{needs}
-use Rattle.cyw43_c.proofs.hand.put_result.Statement.{statement}
-use Rattle.cyw43_c.proofs.hand.put_result.Tie as tie
+use Rattle.entry.proofs.hand.put_result.Statement.{statement}
+use Rattle.entry.proofs.hand.put_result.Tie as tie
 
 put-number-requires : tie.Need-put-number-requires
 put-number-requires c κs = search needs

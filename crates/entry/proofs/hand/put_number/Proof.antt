@@ -1,8 +1,8 @@
 use mathlib.Core.Path.{sym}
 use Rattle.slices.proofs.Over.{set-over, over-past}
 use borrow.Author.Needs.{needs}
-use Rattle.cyw43_c.proofs.hand.put_number.Statement.{statement}
-use Rattle.cyw43_c.proofs.hand.put_number.Tie as tie
+use Rattle.entry.proofs.hand.put_number.Statement.{statement}
+use Rattle.entry.proofs.hand.put_number.Tie as tie
 
 mul-result : tie.Need-mul-result
 mul-result c = search needs
