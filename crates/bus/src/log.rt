@@ -58,5 +58,5 @@ pub fn put_op(log: &mut [u32], at: usize, op: BusOp, buf: &[u8])
     }
     let n = sent(op, buf.len());
     log[at] = first_word(op, n);
-    slices::pack(log, at + 1, &buf[0..n]);
+    words::pack(log, at + 1, &buf[0..n]);
 }

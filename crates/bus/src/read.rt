@@ -14,7 +14,7 @@ fn put_tail(buf: &mut [u8], at: usize, words: &[u32], n: usize)
     let mut i = 0;
     while i < count {
         let j = n + i;
-        buf[at + i] = slices::byte_of(words[j / 4], j % 4);
+        buf[at + i] = words::byte_of(words[j / 4], j % 4);
         i += 1;
     }
 }
@@ -27,7 +27,7 @@ pub fn read_bytes(buf: &mut [u8], words: &[u32], n: usize)
         return;
     }
     let packet = &words[1..];
-    slices::unpack(buf, packet);
+    words::unpack(buf, packet);
     let at = slices::fitting(4 * words.len(), 4, n);
     put_tail(buf, at, words, n);
 }
@@ -36,6 +36,6 @@ pub fn read_bytes(buf: &mut [u8], words: &[u32], n: usize)
 pub fn faulted_read(buf: &mut [u8], n: u16)
     ensures { λ _. ⌜ now (buf .exit) ≡ def.faulted n (now (buf .entry)) ⌝ }
 {
-    slices::put_le32(buf, 0, 0x6000_0000 + n as u32);
+    words::put_le32(buf, 0, 0x6000_0000 + n as u32);
     slices::fill_zero(buf, 4, 4 * ((n as usize + 3) / 4));
 }

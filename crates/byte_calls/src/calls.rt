@@ -1,11 +1,11 @@
 // The fourteen calls with their arguments as bytes. Numbers are le words.
-use slices::get_le32;
 use turn::CallEnd;
 use wlan::DriverError;
 use wlan::Outcome;
 use wlan::Refusal;
 use wlan::ScanList;
 use wlan::State;
+use words::get_le32;
 ghost use mathlib.Core.Path.{_≡_};
 ghost use mathlib.Core.List.{List, []};
 ghost use Prim.Native.Nat.{ℕ};

@@ -13,10 +13,10 @@ use Rattle.slices.specs.Le.{wordsFor, bytesOf}
 use Rattle.wlan.specs.declared.BusOp.{BusOp}
 use Rattle.wlan.specs.declared.BusAnswer.{BusAnswer}
 use Rattle.definition.specs.Bus as def
-use Rattle.bus.specs.declared.Taken.{Taken}
+use Rattle.answers.specs.declared.Taken.{Taken}
 use Rattle.bus.specs.Op.{opOf}
-use Rattle.bus.specs.Taken.{takenOf}
-use Rattle.bus.proofs.Answers.{sizeIn, nextOf, size-pos, taken-fault, taken-value, taken-packet}
+use Rattle.answers.specs.Taken.{takenOf}
+use Rattle.answers.proofs.Answers.{sizeIn, nextOf, size-pos, taken-fault, taken-value, taken-packet}
 use Rattle.device.specs.Meaning.{InRange}
 use Rattle.effects.specs.Answer.{answerIn, isWait}
 

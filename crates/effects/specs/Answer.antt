@@ -5,7 +5,7 @@ use mathlib.Core.List.{List}
 use Rattle.wlan.specs.declared.BusAnswer.{BusAnswer}
 use Rattle.wlan.specs.declared.BusOp.{BusOp}
 use Rattle.definition.specs.Bus.{Ans, fault, val}
-use Rattle.bus.proofs.Answers.{nextOf}
+use Rattle.answers.proofs.Answers.{nextOf}
 
 -- ws: the recording's words that begin with it
 unfoldable pub answerIn : BusAnswer → List ℕ → Ans

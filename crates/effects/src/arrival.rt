@@ -1,8 +1,8 @@
 // What is read of a packet that came.
 use device::Arrival;
 use events::event::read_event;
+use rx::sdpcm_process_rx_packet;
 use sdpcm::header::blank;
-use sdpcm::rx::sdpcm_process_rx_packet;
 use wlan::AsyncEvent;
 use wlan::BusOp;
 use wlan::Received;

@@ -8,9 +8,9 @@ ghost use mathlib.Core.Bool.{false};
 ghost use mathlib.Core.List.{[]};
 ghost use lib.ListN.{drop};
 ghost use Rattle.definition.specs.Bus as def;
-ghost use Rattle.bus.specs.declared.Taken as taken;
+ghost use Rattle.answers.specs.declared.Taken as taken;
 ghost use Rattle.bus.specs.Op.{opOf};
-ghost use Rattle.bus.specs.Taken.{takenOf};
+ghost use Rattle.answers.specs.Taken.{takenOf};
 ghost use Rattle.device.specs.Meaning.{landing, InRange};
 ghost use Rattle.effects.specs.Answer.{answerIn, isWait};
 
@@ -67,5 +67,5 @@ pub fn in_range(op: BusOp, x: BusAnswer, rec: &[u32], pos: usize)
     requires { ⌜ taken.Taken.Got x ≡ takenOf (opOf op []) (drop pos (now rec)) ⌝ }
     ensures { λ _. ⌜ InRange op (answerIn x (drop pos (now (rec .entry)))) ⌝ }
 {
-    let _word = slices::word_at(rec, pos + 1);
+    let _word = words::word_at(rec, pos + 1);
 }

@@ -29,7 +29,7 @@ pub fn success_of(e: Ending, buf: &[u8]) -> Success
     match e {
         Ending::Done => Success::Done,
         Ending::Mac => Success::Mac(mac_in(buf)),
-        Ending::Word => Success::Word(slices::get_le32(buf, 28)),
+        Ending::Word => Success::Word(words::get_le32(buf, 28)),
         Ending::Polled(p) => Success::Polled(p),
     }
 }

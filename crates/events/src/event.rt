@@ -62,7 +62,7 @@ pub fn scan_result(e: [u8; 140]) -> ScanRecord
         bssid: bssid,
         ssid_len: n,
         channel: e[132],
-        rssi: slices::signed16(slices::get_le16(&e, 138)),
+        rssi: words::signed16(words::get_le16(&e, 138)),
     }
 }
 
@@ -72,10 +72,10 @@ pub fn read_event(part: &[u8], len: u16) -> AsyncEvent
     let e = event_bytes(part, len);
     let result = scan_result(e);
     AsyncEvent {
-        flags: slices::get_be16(&e, 2),
-        event_type: slices::get_be32(&e, 4),
-        status: slices::get_be32(&e, 8),
-        reason: slices::get_be32(&e, 12),
+        flags: words::get_be16(&e, 2),
+        event_type: words::get_be32(&e, 4),
+        status: words::get_be32(&e, 8),
+        reason: words::get_be32(&e, 12),
         scan_result: result,
     }
 }

@@ -18,7 +18,7 @@ use control::Stage;
 use device::Arrival;
 use ioctl::IoctlNext;
 use ioctl::IoctlPoint;
-use ioctl::ioctl_answer;
+use reply::ioctl_answer;
 use send::elapsed_us;
 use steps::stages::request_at;
 use steps::stages::request_len;

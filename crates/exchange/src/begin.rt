@@ -12,7 +12,7 @@ use control::RequestPut;
 use control::Stage;
 use ioctl::IoctlNext;
 use ioctl::IoctlStep;
-use ioctl::ioctl_start;
+use reply::ioctl_start;
 use sdpcm::header::next_id;
 use send::HeaderPut;
 use steps::stages::is_last;

@@ -37,7 +37,7 @@ pub fn output_length(call: u32, args: &[u8]) -> usize
     ensures { λ r. ⌜ r ≡ outputLength call (now (args .entry)) ⌝ }
 {
     if call == 8 && args.len() == 4 {
-        slices::get_le32(args, 0) as usize
+        words::get_le32(args, 0) as usize
     } else {
         0
     }
@@ -51,7 +51,7 @@ pub fn read_word() -> Word {
     } else if n < 4 {
         Word::Cut
     } else {
-        Word::Value(slices::get_le32(&b, 0))
+        Word::Value(words::get_le32(&b, 0))
     }
 }
 
@@ -78,7 +78,7 @@ fn read_bytes(b: &mut [u8]) -> bool {
 // The same for words; bytes: room for theirs.
 fn read_packed(words: &mut [u32], bytes: &mut [u8]) -> bool {
     let whole = read_bytes(bytes);
-    slices::pack(words, 0, bytes);
+    words::pack(words, 0, bytes);
     whole
 }
 

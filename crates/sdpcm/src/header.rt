@@ -13,13 +13,13 @@ ghost use Rattle.definition.specs.Packet.{sizeIn, complementIn, header, dataPar
 pub fn size_in(buf: &[u8]) -> u16
     ensures { λ r. ⌜ r ≡ sizeIn (now (buf .entry)) ⌝ }
 {
-    slices::get_le16(buf, 0)
+    words::get_le16(buf, 0)
 }
 
 pub fn complement_in(buf: &[u8]) -> u16
     ensures { λ r. ⌜ r ≡ complementIn (now (buf .entry)) ⌝ }
 {
-    slices::get_le16(buf, 2)
+    words::get_le16(buf, 2)
 }
 
 // Size and complement are both 0: nothing was there to read.
@@ -45,8 +45,8 @@ pub fn put_header(buf: &mut [u8], size: u16, seq: u8, channel: u8)
 {
     let h = header_length(channel);
     let rest = [seq, channel, 0, h, 0, 0, 0, 0];
-    slices::put_le16(buf, 0, size);
-    slices::put_le16(buf, 2, 65535 - size);
+    words::put_le16(buf, 0, size);
+    words::put_le16(buf, 2, 65535 - size);
     slices::copy_over(buf, 4, &rest);
 }
 

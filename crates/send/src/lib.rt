@@ -1,24 +1,17 @@
-// `sdpcm_send_common`: the stall, the header and the write. Where it waits for the bus, and what it does with an answer.
+// `sdpcm_send_common`: where it waits for the bus, its header and its write. Its stall is in `stall`.
 ghost use mathlib.Core.Path.{_≡_};
 ghost use Rattle.definition.specs.Send.{elapsed, free};
 ghost use Rattle.send.specs.Send as to;
-use device::Arrival;
-use device::PollNext;
 use device::PollPoint;
-use device::poll_answer;
 use device::poll_op;
-use device::poll_start;
-use handling::handle::handle_async_event;
 use sdpcm::header::next_seq;
 use sdpcm::status::f2_ready;
-use wlan::AsyncEvent;
 use wlan::BusAnswer;
 use wlan::BusOp;
 use wlan::DriverError;
 use wlan::PendingBuf;
 use wlan::PendingIoctlResp;
 use wlan::PendingResp;
-use wlan::SdpcmPacket;
 use wlan::State;
 use wlan::setters::set_reply;
 use wlan::setters::with_pending;
@@ -96,13 +89,13 @@ fn step(st: State, heard: bool, n: SendNext) -> SendStep
     }
 }
 
-fn ask(st: State, heard: bool, p: SendPoint) -> SendStep
+pub fn ask(st: State, heard: bool, p: SendPoint) -> SendStep
     ensures { λ r. ⌜ r ≡ to.asks st heard p ⌝ }
 {
     step(st, heard, SendNext::Ask(HeaderPut::None, p))
 }
 
-fn refuse(st: State, e: DriverError) -> SendStep
+pub fn refuse(st: State, e: DriverError) -> SendStep
     ensures { λ r. ⌜ r ≡ to.refuses st e ⌝ }
 {
     step(st, false, SendNext::Refused(HeaderPut::None, e))
@@ -126,7 +119,7 @@ pub fn elapsed_us(start: u64, now: u64) -> u64
 }
 
 // The header is laid and the sequence number spent; a packet above 2,040 bytes goes no further.
-fn emit(st: State, heard: bool, out: OutPacket) -> SendStep
+pub fn emit(st: State, heard: bool, out: OutPacket) -> SendStep
     ensures { λ r. ⌜ r ≡ to.emitStep st heard out ⌝ }
 {
     let s = st.sdpcm;
@@ -144,39 +137,6 @@ fn emit(st: State, heard: bool, out: OutPacket) -> SendStep
         t,
         heard,
         SendNext::Ask(put, SendPoint::Ready(999, (size + 3) / 4 * 4)),
-    )
-}
-
-// After a poll of a stall.
-fn test(st: State, heard: bool, out: OutPacket, t0: u64) -> SendStep
-    ensures { λ r. ⌜ r ≡ to.testStep st heard out t0 ⌝ }
-{
-    if is_free(st) {
-        emit(st, heard, out)
-    } else {
-        ask(st, heard, SendPoint::Stall(StallPoint::Late(t0)))
-    }
-}
-
-pub fn send_start(st: State, out: OutPacket) -> SendStep
-    ensures { λ r. ⌜ r ≡ to.startStep st out ⌝ }
-{
-    if is_free(st) {
-        emit(st, false, out)
-    } else {
-        ask(st, false, SendPoint::Stall(StallPoint::First))
-    }
-}
-
-// A stall polls, from the beginning.
-fn polling(st: State, t0: u64) -> SendStep
-    ensures { λ r. ⌜ r ≡ to.pollingStep st t0 ⌝ }
-{
-    let s = st.sdpcm;
-    ask(
-        st,
-        false,
-        SendPoint::Stall(StallPoint::Polling(t0, poll_start(s))),
     )
 }
 
@@ -199,97 +159,6 @@ pub fn store_reply(st: State, offset: u16, len: u16, status: i32) -> State
     )
 }
 
-// A stall's poll brought a packet.
-fn stall_packet(st: State, out: OutPacket, t0: u64, e: AsyncEvent, p: SdpcmPacket) -> SendStep
-    ensures { λ r. ⌜ r ≡ to.packetStep st out t0 e p ⌝ }
-{
-    match p {
-        SdpcmPacket::None => test(st, false, out, t0),
-        SdpcmPacket::Control {
-            offset,
-            len,
-            status,
-        } => polling(store_reply(st, offset, len, status), t0),
-        SdpcmPacket::AsyncEvent { offset: _, len } => {
-            let h = handle_async_event(st, len, e);
-            let s = h.st;
-            test(s, h.heard, out, t0)
-        }
-        SdpcmPacket::Data {
-            offset: _,
-            len: _,
-            interface: _,
-        } => test(st, false, out, t0),
-    }
-}
-
-fn stall_next(st: State, out: OutPacket, t0: u64, e: AsyncEvent, n: PollNext) -> SendStep
-    ensures { λ r. ⌜ r ≡ to.stallNext st out t0 e n ⌝ }
-{
-    match n {
-        PollNext::Ask(q) => ask(st, false, SendPoint::Stall(StallPoint::Polling(t0, q))),
-        PollNext::Got(p) => stall_packet(st, out, t0, e, p),
-        PollNext::Refused(x) => refuse(st, x),
-    }
-}
-
-fn stall_poll(
-    st: State,
-    out: OutPacket,
-    t0: u64,
-    q: PollPoint,
-    x: BusAnswer,
-    a: Arrival,
-) -> SendStep
-    ensures { λ r. ⌜ r ≡ to.stallPoll st out t0 q x a ⌝ }
-{
-    let s = st.sdpcm;
-    let r = poll_answer(s, q, x, a);
-    let t = r.sdpcm;
-    let n = r.next;
-    let e = a.event;
-    stall_next(with_sdpcm(st, t), out, t0, e, n)
-}
-
-fn stall_late(st: State, t0: u64, t: u64) -> SendStep
-    ensures { λ r. ⌜ r ≡ to.lateStep st t0 t ⌝ }
-{
-    if 1_000_000 < elapsed_us(t0, t) {
-        refuse(st, DriverError::Timeout)
-    } else {
-        ask(st, false, SendPoint::Stall(StallPoint::Waited(t0)))
-    }
-}
-
-fn at_first(st: State, x: BusAnswer) -> SendStep
-    ensures { λ r. ⌜ r ≡ to.atFirst st x ⌝ }
-{
-    match x {
-        BusAnswer::Value(t) => polling(st, t),
-        BusAnswer::Fault(p) => refuse(st, DriverError::Fault(p)),
-    }
-}
-
-fn at_late(st: State, t0: u64, x: BusAnswer) -> SendStep
-    ensures { λ r. ⌜ r ≡ to.atLate st t0 x ⌝ }
-{
-    match x {
-        BusAnswer::Value(t) => stall_late(st, t0, t),
-        BusAnswer::Fault(p) => refuse(st, DriverError::Fault(p)),
-    }
-}
-
-fn stall_answer(st: State, out: OutPacket, p: StallPoint, x: BusAnswer, a: Arrival) -> SendStep
-    ensures { λ r. ⌜ r ≡ to.stallAnswer st out p x a ⌝ }
-{
-    match p {
-        StallPoint::First => at_first(st, x),
-        StallPoint::Polling(t0, q) => stall_poll(st, out, t0, q, x, a),
-        StallPoint::Late(t0) => at_late(st, t0, x),
-        StallPoint::Waited(t0) => polling(st, t0),
-    }
-}
-
 fn ready_read(st: State, left: u16, n: u16, v: u32) -> SendStep
     ensures { λ r. ⌜ r ≡ to.readyStep st left n v ⌝ }
 {
@@ -302,7 +171,7 @@ fn ready_read(st: State, left: u16, n: u16, v: u32) -> SendStep
     ask(st, false, SendPoint::Ready(left - 1, n))
 }
 
-fn at_ready(st: State, left: u16, n: u16, x: BusAnswer) -> SendStep
+pub fn at_ready(st: State, left: u16, n: u16, x: BusAnswer) -> SendStep
     ensures { λ r. ⌜ r ≡ to.atReady st left n x ⌝ }
 {
     match x {
@@ -311,21 +180,11 @@ fn at_ready(st: State, left: u16, n: u16, x: BusAnswer) -> SendStep
     }
 }
 
-fn at_writing(st: State, x: BusAnswer) -> SendStep
+pub fn at_writing(st: State, x: BusAnswer) -> SendStep
     ensures { λ r. ⌜ r ≡ to.atWriting st x ⌝ }
 {
     match x {
         BusAnswer::Value(_) => step(st, false, SendNext::Sent),
         BusAnswer::Fault(p) => refuse(st, DriverError::Fault(p)),
-    }
-}
-
-pub fn send_answer(st: State, out: OutPacket, p: SendPoint, x: BusAnswer, a: Arrival) -> SendStep
-    ensures { λ r. ⌜ r ≡ to.sendAnswer st out p x a ⌝ }
-{
-    match p {
-        SendPoint::Stall(s) => stall_answer(st, out, s, x, a),
-        SendPoint::Ready(left, n) => at_ready(st, left, n, x),
-        SendPoint::Writing(_) => at_writing(st, x),
     }
 }

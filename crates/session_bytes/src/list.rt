@@ -1,11 +1,11 @@
 // The scan list's 1,352 bytes: the count, then 32 records of 42 bytes.
 use slices::copy_over;
-use slices::get_le32;
-use slices::signed16;
 use state_bytes::numbers::pair;
 use state_bytes::numbers::unsigned16;
 use wlan::ScanList;
 use wlan::ScanRecord;
+use words::get_le32;
+use words::signed16;
 ghost use mathlib.Core.Path.{_≡_};
 ghost use Prim.Native.Nat.{_+_, _*_, _≤_};
 ghost use lib.ListN.{length, take, drop};

@@ -1,6 +1,5 @@
 // What is there or not as numbers: a tag, 0 for none, and fields, 0 where there are none.
 use crate::numbers::unsigned32;
-use slices::signed32;
 use wlan::ConnectFailure;
 use wlan::PendingBuf;
 use wlan::PendingIoctlResp;
@@ -8,6 +7,7 @@ use wlan::PendingResp;
 use wlan::PendingRx;
 use wlan::StartedTick;
 use wlan::WifiConnectFailure;
+use words::signed32;
 ghost use mathlib.Core.Path.{_≡_};
 ghost use Rattle.slices.specs.Le.{signed32};
 ghost use Rattle.state_bytes.specs.Parts as to;

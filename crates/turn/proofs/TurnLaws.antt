@@ -24,10 +24,10 @@ use Rattle.definition.specs.Prog.{World, world, Prog, ask, say}
 use Rattle.definition.specs.Poll.{Result}
 use Rattle.definition.specs.Run.{End, words, finished, rolledBack, shown}
 use Rattle.definition.proofs.Compose.{unroll}
-use Rattle.bus.specs.declared.Taken.{Taken}
+use Rattle.answers.specs.declared.Taken.{Taken}
 use Rattle.bus.specs.Op.{opOf, bare}
-use Rattle.bus.specs.Taken.{takenOf}
-use Rattle.bus.proofs.Answers.{restOf, head-at, size-pos, taken-any, taken-bare, taken-unrecorded, taken-wrong, taken-fault, taken-value}
+use Rattle.answers.specs.Taken.{takenOf}
+use Rattle.answers.proofs.Answers.{restOf, head-at, size-pos, taken-any, taken-bare, taken-unrecorded, taken-wrong, taken-fault, taken-value}
 use Rattle.handling.specs.Handle.{listHeard}
 use Rattle.device.specs.Meaning.{secretly, opIn, asking, told, landing, InRange}
 use Rattle.control.specs.declared.CallPoint.{CallPoint}

@@ -4,9 +4,9 @@ use crate::Running;
 use crate::Standing;
 use crate::step::proceed;
 use crate::step::still;
-use bus::Taken;
-use bus::answer::answer_words;
-use bus::answer::take_answer;
+use answers::Taken;
+use answers::answer_words;
+use answers::take_answer;
 use bus::log::op_words;
 use bus::log::put_op;
 use control::CallPoint;
@@ -25,10 +25,10 @@ ghost use lib.ListN.{length, drop};
 ghost use Rattle.definition.specs.Bus.{answers};
 ghost use Rattle.definition.specs.Prog.{World};
 ghost use Rattle.wlan.specs.declared.ScanList as list;
-ghost use Rattle.bus.specs.declared.Taken as taken;
+ghost use Rattle.answers.specs.declared.Taken as taken;
 ghost use Rattle.bus.specs.Op.{opOf};
-ghost use Rattle.bus.specs.Taken.{takenOf};
-ghost use Rattle.bus.proofs.Answers.{restOf};
+ghost use Rattle.answers.specs.Taken.{takenOf};
+ghost use Rattle.answers.proofs.Answers.{restOf};
 ghost use Rattle.device.specs.Meaning.{opIn};
 ghost use Rattle.control.specs.Steps.{callOp};
 ghost use Rattle.control.specs.Meaning.{Kc, secretAt};
@@ -60,7 +60,7 @@ fn got(
     land(buf, op, x, rec, pos);
     let next = Standing {
         st: st,
-        pos: pos + answer_words(slices::word_at(rec, pos)),
+        pos: pos + answer_words(words::word_at(rec, pos)),
         len: at.len,
     };
     proceed(next, p, x, j, first, second, buf)

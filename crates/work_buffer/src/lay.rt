@@ -1,8 +1,4 @@
 // What each request lays into the part of the work buffer from byte 28 on: the payload of the definition's request, and of it what fits.
-use payload::put_address;
-use payload::put_country;
-use payload::put_escan;
-use payload::put_event_messages;
 use payload::put_key;
 use payload::put_name;
 use payload::put_sae_password;
@@ -13,6 +9,10 @@ use payload::put_zeros;
 use requests::IovarName;
 use requests::Request;
 use requests::numbers::name_len;
+use variables::put_address;
+use variables::put_country;
+use variables::put_escan;
+use variables::put_event_messages;
 ghost use mathlib.Core.Path.{_≡_};
 ghost use mathlib.Core.List.{[], _∷_};
 ghost use Rattle.slices.specs.Over.{over};
@@ -40,14 +40,14 @@ pub fn put_iovar(part: &mut [u8], v: IovarName, x: u32)
     ensures { λ _. ⌜ now (part .exit) ≡ over (now (part .entry)) 0 ((to.iovar (nameOf v) (x ∷ [])) .payload) ⌝ }
 {
     put_iovar_name(part, v);
-    slices::put_le32(part, name_len(v) + 1, x);
+    words::put_le32(part, name_len(v) + 1, x);
 }
 
 pub fn put_iovar_pair(part: &mut [u8], v: IovarName, x: u32, y: u32)
     ensures { λ _. ⌜ now (part .exit) ≡ over (now (part .entry)) 0 ((to.iovar (nameOf v) (x ∷ y ∷ [])) .payload) ⌝ }
 {
     put_iovar(part, v, x);
-    slices::put_le32(part, name_len(v) + 5, y);
+    words::put_le32(part, name_len(v) + 5, y);
 }
 
 pub fn lay_payload(part: &mut [u8], r: Request, first: &[u8], second: &[u8])

@@ -39,10 +39,10 @@ fn flags(r: Request, id: u8) -> usize
 pub fn put_ioctl_header(buf: &mut [u8], r: Request, first: &[u8], second: &[u8], id: u8)
     ensures { λ _. ⌜ now (buf .exit) ≡ over (now (buf .entry)) 12 (ioctlHeader (requestOf r (now (first .entry)) (now (second .entry))) id) ⌝ }
 {
-    slices::put_le32(buf, 12, request_cmd(r));
+    words::put_le32(buf, 12, request_cmd(r));
     put_low32(buf, 16, payload_len(r, first, second));
     put_low32(buf, 20, flags(r, id));
-    slices::put_le32(buf, 24, 0);
+    words::put_le32(buf, 24, 0);
 }
 
 // A reply's n bytes, from offset on, to where the payload was.
@@ -56,7 +56,7 @@ pub fn copy_reply(buf: &mut [u8], offset: usize, n: usize)
 pub fn mac_in(buf: &[u8]) -> u64
     ensures { λ r. ⌜ r ≡ macIn (now (buf .entry)) ⌝ }
 {
-    let high = slices::get_be16(buf, 28) as u64;
-    let low = slices::get_be32(buf, 30) as u64;
+    let high = words::get_be16(buf, 28) as u64;
+    let low = words::get_be32(buf, 30) as u64;
     high * 4294967296 + low
 }

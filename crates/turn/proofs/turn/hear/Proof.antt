@@ -3,7 +3,7 @@ use mathlib.Core.List.{[]}
 use Prim.Native.Nat.{_-_}
 use lib.ListN.{drop}
 use Rattle.bus.specs.Op.{opOf}
-use Rattle.bus.specs.Taken.{takenOf}
+use Rattle.answers.specs.Taken.{takenOf}
 use Rattle.control.specs.Steps.{callOp}
 use Rattle.control.specs.Meaning.{Kc, secretAt}
 use Rattle.effects.specs.Args.{argsOf}

@@ -1,0 +1,24 @@
+use borrow.Author.Needs.{needs}
+use Rattle.rx.proofs.Laws.{credits-not, credits-by}
+use Rattle.rx.proofs.credits.Statement.{statement}
+use Rattle.rx.proofs.credits.Tie as tie
+
+channel-in-requires : tie.Need-channel-in-requires
+channel-in-requires c κs = search needs
+
+returns : tie.Need-returns
+returns c = let a = c .before .before .before .args in credits-not (a .buf .now) (a .s) (search needs)
+
+byte-at-requires : tie.Need-byte-at-requires
+byte-at-requires c κs = search needs
+
+credit-step-requires : tie.Need-credit-step-requires
+credit-step-requires c κs = search needs
+
+returns-2 : tie.Need-returns-2
+returns-2 c = let a = c .before .before .before .before .before .args in credits-by (a .buf .now) (a .s) (c .credit-step .result) (search needs) (search needs)
+
+pub credits-spec : {M : Type 1} → statement M
+credits-spec =
+    tie.close
+    (tie.spec channel-in-requires returns byte-at-requires credit-step-requires returns-2)
