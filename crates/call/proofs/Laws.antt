@@ -1,5 +1,5 @@
 -- A call that ended, by the tree that it began with.
-use mathlib.Core.Path.{_≡_, refl, sym, _∙_}
+use mathlib.Core.Path.{_≡_, refl, _∙_}
 use mathlib.Core.List.{List, []}
 use Prim.Native.Nat.{ℕ}
 use lib.ListN.{length, drop}
@@ -11,7 +11,7 @@ use Rattle.definition.specs.Bus.{Bytes}
 use Rattle.definition.specs.Event.{eventOf}
 use Rattle.definition.specs.Prog.{World, world}
 use Rattle.definition.specs.Calls.{Call, call}
-use Rattle.definition.specs.Run.{End, called, runOf}
+use Rattle.definition.specs.Run.{called, runOf}
 use Rattle.control.specs.Meaning.{callShown}
 use Rattle.effects.specs.Args.{argsOf}
 use Rattle.jobs.specs.declared.Begun.{Begun}

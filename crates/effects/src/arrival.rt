@@ -6,6 +6,8 @@ use sdpcm::header::blank;
 use wlan::AsyncEvent;
 use wlan::BusOp;
 use wlan::Received;
+use wlan::RxPacket;
+use wlan::ScanRecord;
 use wlan::Sdpcm;
 use wlan::SdpcmPacket;
 use wlan::setters::set_mark;
@@ -27,8 +29,19 @@ fn event_from(buf: &[u8], offset: usize, len: u16) -> AsyncEvent
 pub fn no_event() -> AsyncEvent
     ensures { λ r. ⌜ r ≡ eventOf [] 0 ⌝ }
 {
-    let none = [0; 0];
-    read_event(&none, 0)
+    AsyncEvent {
+        flags: 0,
+        event_type: 0,
+        status: 0,
+        reason: 0,
+        scan_result: ScanRecord {
+            ssid: [0; 32],
+            bssid: [0; 6],
+            ssid_len: 0,
+            channel: 0,
+            rssi: 0,
+        },
+    }
 }
 
 fn packet_event(p: SdpcmPacket, buf: &[u8]) -> AsyncEvent
@@ -75,8 +88,14 @@ fn arrival_of(n: u16, buf: &[u8], s: Sdpcm) -> Arrival
 fn nothing(s: Sdpcm) -> Arrival
     ensures { λ r. ⌜ r ≡ to.arrivalOf 0 [] s ⌝ }
 {
-    let none = [0; 0];
-    arrival_of(0, &none, s)
+    Arrival {
+        blank: true,
+        rx: RxPacket {
+            sdpcm: set_mark(s, true),
+            received: Received::Packet(SdpcmPacket::None),
+        },
+        event: no_event(),
+    }
 }
 
 pub fn arrival(op: BusOp, buf: &[u8], s: Sdpcm) -> Arrival

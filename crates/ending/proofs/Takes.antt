@@ -1,10 +1,9 @@
 -- take, which logs nothing.
-use mathlib.Core.Path.{_≡_, refl, sym, ap, _∙_}
+use mathlib.Core.Path.{_≡_, sym, ap, _∙_}
 use mathlib.Core.Bool.{Bool, true, false}
 use mathlib.Core.List.{List, []}
 use Prim.Native.Nat.{ℕ, _+_}
-use native.Mathlib.Omega.{arith}
-use lib.Dec.{ltb, eqb}
+use lib.Dec.{ltb}
 use lib.ListN.{length, take, drop}
 use borrow.Author.Tests.{eq-eqb, ne-eqb}
 use Rattle.slices.specs.Pick.{pick}
@@ -17,10 +16,9 @@ use Rattle.wlan.specs.declared.Success.{Success}
 use Rattle.wlan.specs.declared.PendingBuf.{PendingBuf}
 use Rattle.wlan.specs.declared.PendingRx.{PendingRx}
 use Rattle.definition.specs.Bus.{Bytes, logOf, answers}
-use Rattle.definition.specs.Prog.{World, Prog, ret, stop}
-use Rattle.definition.specs.Poll.{Result}
+use Rattle.definition.specs.Prog.{World, ret, stop}
 use Rattle.definition.specs.Calls.{Call, call, taken, frameless}
-use Rattle.definition.specs.Run.{End, shown, run, finished, called, runOf}
+use Rattle.definition.specs.Run.{shown, run, finished, called, runOf}
 use Rattle.turn.specs.Onward.{endOf, withList}
 use Rattle.turn.proofs.Going.{run-ret, run-stop}
 use Rattle.ending.specs.Take.{ended, driverError, framelessState, frameTaken}

@@ -1,7 +1,7 @@
 -- Each call's first step is the front of its tree.
-use mathlib.Core.Path.{_≡_, refl, sym, ap, _∙_}
-use mathlib.Core.Bool.{Bool, true, false, _&&_}
-use mathlib.Core.List.{List, [], _∷_}
+use mathlib.Core.Path.{_≡_, refl}
+use mathlib.Core.Bool.{true, false, _&&_}
+use mathlib.Core.List.{[]}
 use Prim.Native.Nat.{ℕ, _+_, _-_, _≤_, _<_, _^_}
 use native.Mathlib.Omega.{arith}
 use lib.Dec.{ltb, leb, eqb}
@@ -12,30 +12,27 @@ use Rattle.slices.specs.Pick.{pick}
 use Rattle.wlan.specs.declared.WifiAuth.{WifiAuth}
 use Rattle.wlan.specs.declared.DriverError.{DriverError}
 use Rattle.wlan.specs.declared.AsyncEvent.{AsyncEvent}
-use Rattle.wlan.specs.declared.State.{State}
 use Rattle.definition.specs.Bus.{Bytes}
 use Rattle.definition.specs.Prog.{World, stop}
-use Rattle.definition.specs.Request as def
 use Rattle.definition.specs.Join.{security, tooLong, authOf, join}
 use Rattle.definition.specs.Calls.{Call, call, send, gpio, mac, get, setting, variableSet, isInterface, isCommand}
 use Rattle.definition.proofs.Compose.{unroll}
 use Rattle.requests.specs.declared.Request.{Request}
 use Rattle.requests.specs.declared.IovarName.{IovarName}
 use Rattle.control.specs.declared.Before.{Before}
-use Rattle.control.specs.declared.CallStep.{CallStep}
 use Rattle.control.specs.declared.Ending.{Ending}
 use Rattle.control.specs.declared.Job.{Job}
 use Rattle.control.specs.declared.Stage.{Stage}
 use Rattle.control.specs.Steps.{refuses}
 use Rattle.control.specs.Poll.{pollingStep}
 use Rattle.control.specs.Begin.{exchangesStep, scanStart, joinStart, frameStart}
-use Rattle.control.specs.Meaning.{Args, lensOf, laidBefore, laidRequest, laidAll, listAt, successOf, callTree, callShown}
+use Rattle.control.specs.Meaning.{lensOf, laidBefore, laidRequest, laidAll, listAt, successOf, callTree, callShown}
 use Rattle.control.proofs.StageBridge.{Modest}
 use Rattle.control.proofs.Start as start
 use Rattle.handling.specs.Handle.{listHeard}
 use Rattle.send.specs.Meaning.{laidHeader}
 use Rattle.effects.specs.Args.{argsOf}
-use Rattle.jobs.specs.Jobs.{noJob, initJob, joinJob, frameJob, requestJob, plain, invalidArg, single, cut}
+use Rattle.jobs.specs.Jobs.{noJob, initJob, joinJob, frameJob, requestJob, plain, single, cut}
 
 modest : (j : Job) → Modest (plain j)
 modest j = omega arith

@@ -1,7 +1,7 @@
 -- What each call hands to the run beside its byte arguments, and when a step is a call's first.
 use Prim.Native.Nat.{ℕ, _+_}
 use mathlib.Core.Path.{_≡_}
-use mathlib.Core.Bool.{Bool, true, false}
+use mathlib.Core.Bool.{Bool, false}
 use mathlib.Core.List.{[]}
 use lib.Dec.{leb}
 use Rattle.slices.specs.Pick.{pick}

@@ -1,43 +1,28 @@
--- <<
 use mathlib.Core.Path.{_∙_}
 use Rattle.effects.specs.Args.{argsOf}
 use Rattle.definition.specs.Prog.{world}
--- >>
 use borrow.Author.Needs.{needs}
 use Rattle.call.proofs.heard_from.Statement.{statement}
 use Rattle.call.proofs.heard_from.Tie as tie
-use Rattle.call.proofs.heard_from.Reads as reads
-use Rattle.call.proofs.heard_from.Lts as lts
-use Rattle.ending.proofs.wind.list_end.Reads as list-end-reads
-use Rattle.ending.proofs.wind.wind.Reads as wind-reads
-use Rattle.ending.proofs.wind.with_list.Reads as with-list-reads
-use Rattle.run.proofs.heard.run_heard.Reads as run-heard-reads
 
--- src/lib.rt:68:9
 run-heard-requires : tie.Need-run-heard-requires
 run-heard-requires c κs = search needs
 
--- src/lib.rt:72:9
 wind-requires : tie.Need-wind-requires
 wind-requires c κs = (search needs, c .before .before .before .before .before .before .before .run-heard .ensures .1)
 
--- src/lib.rt:73:18
 list-end-requires : tie.Need-list-end-requires
 list-end-requires c κs = search needs
 
--- src/lib.rt:73:5
 with-list-requires : tie.Need-with-list-requires
 with-list-requires c κs = search needs
 
--- src/lib.rt:52:1
 same-length : tie.Need-same-length
 same-length c = search needs
 
--- src/lib.rt:52:1
 same-length-2 : tie.Need-same-length-2
 same-length-2 c = search needs
 
--- src/lib.rt:52:1
 returns : tie.Need-returns
 returns c = rw (c .with-list .ensures, c .before .list-end .ensures) (c .before .before .before .before .wind .ensures (argsOf (c .before .before .before .before .before .before .before .before .before .before .before .before .before .before .before .before .before .before .before .before .before .args .j) (c .before .before .before .before .before .before .before .before .before .before .before .before .before .before .before .before .before .before .before .before .before .args .first .now) (c .before .before .before .before .before .before .before .before .before .before .before .before .before .before .before .before .before .before .before .before .before .args .second .now)) (c .before .before .before .before .before .before .before .before .before .before .before .before .before .before .before .before .before .before .before .before .before .args .rec .now) _ _ (c .before .before .before .before .before .before .before .before .before .before .before .before .before .before .before .before .before .before .before .before .before .args .list) ∙ c .before .before .before .before .before .before .before .before .before .before .before .before .run-heard .ensures .0 (world (c .before .before .before .before .before .before .before .before .before .before .before .before .before .before .before .before .before .before .before .before .before .args .st) (c .before .before .before .before .before .before .before .before .before .before .before .before .before .before .before .before .before .before .before .before .before .args .saved .now) (c .before .before .before .before .before .before .before .before .before .before .before .before .before .before .before .before .before .before .before .before .before .args .list)))
 

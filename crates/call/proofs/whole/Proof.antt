@@ -1,4 +1,3 @@
--- <<
 use mathlib.Core.Path.{_≡_, refl, sym, _∙_}
 use native.Mathlib.Omega.{arith}
 use Rattle.slices.proofs.Over.{over-whole}
@@ -6,80 +5,55 @@ use Rattle.definition.specs.Prog.{world}
 use Rattle.effects.specs.Args.{argsOf}
 use Rattle.turn.proofs.TurnLaws as turn
 use Rattle.call.proofs.Laws as law
--- >>
 use borrow.Author.Needs.{needs}
 use Rattle.call.proofs.whole.Statement.{statement}
 use Rattle.call.proofs.whole.Tie as tie
-use Rattle.call.proofs.whole.Reads as reads
-use Rattle.call.proofs.whole.Lts as lts
-use Rattle.call.proofs.first_run.Reads as first-run-reads
-use Rattle.call.proofs.heard_from.Reads as heard-from-reads
-use Rattle.ending.proofs.wind.wind.Reads as wind-reads
-use Rattle.ending.proofs.wind.with_list.Reads as with-list-reads
-use Rattle.run.proofs.run.touched.Reads as touched-reads
-use Rattle.slices.proofs.copy_over.Reads as copy-over-reads
 
--- src/lib.rt:90:9
 returns : tie.Need-returns
 returns c = λ k h. law.called-13 (c .before .before .before .before .before .before .args .st) (c .before .before .before .before .before .before .args .buf .now) (c .before .before .before .before .before .before .args .list) (c .before .before .before .before .before .before .args .rec .now) (c .before .before .before .before .before .before .args .log .now) k (c .if1 .taken)
 
--- src/lib.rt:98:23
 slice-aggregate-copy-over : tie.Need-slice-aggregate-copy-over
 slice-aggregate-copy-over c = search needs
 
--- src/lib.rt:98:5
 copy-over-requires : tie.Need-copy-over-requires
 copy-over-requires c κs = search needs
 
--- src/lib.rt:101:9
 first-run-requires : tie.Need-first-run-requires
 first-run-requires c κs = search needs
 
--- src/lib.rt:102:8
 touched-requires : tie.Need-touched-requires
 touched-requires c κs = search needs
 
--- src/lib.rt:103:58
 slice-aggregate-heard-from : tie.Need-slice-aggregate-heard-from
 slice-aggregate-heard-from c = search needs
 
--- src/lib.rt:103:9
 heard-from-requires : tie.Need-heard-from-requires
 heard-from-requires c κs = (c .before .before .before .before .before .before .before .before .before .before .before .before .before .before .before .before .before .before .before .before .before .before .before .before .pre, search needs)
 
--- src/lib.rt:103:9
 same-length : tie.Need-same-length
 same-length c = search needs
 
--- src/lib.rt:103:9
 same-length-2 : tie.Need-same-length-2
 same-length-2 c = search needs
 
--- src/lib.rt:103:9
 returns-2 : tie.Need-returns-2
 returns-2 c = λ k h. let w = world (c .before .before .before .before .before .before .before .before .before .before .before .before .before .before .before .before .before .before .before .before .before .before .before .before .before .before .before .before .before .args .st) (c .before .before .before .before .before .before .before .before .before .before .before .before .before .before .before .before .before .before .before .before .before .before .before .before .before .before .before .before .before .args .buf .now) (c .before .before .before .before .before .before .before .before .before .before .before .before .before .before .before .before .before .before .before .before .before .before .before .before .before .before .before .before .before .args .list) in let s : c .before .before .before .before .before .before .before .before .before .before .before .before .before .before .before .before .before .before .before .before .copy-over .last .0 ≡ c .before .before .before .before .before .before .before .before .before .before .before .before .before .before .before .before .before .before .before .before .before .before .before .before .before .before .before .before .before .args .buf .now = c .before .before .before .before .before .before .before .before .before .before .before .before .before .before .before .before .before .before .before .before .copy-over .ensures ∙ over-whole _ _ (omega (arith, c .before .before .before .before .before .before .before .before .before .before .before .before .before .before .before .before .before .before .before .before .before .before .before .if1 .left)) in c .before .before .before .before .heard-from .ensures ∙ (rw s (c .before .before .before .before .before .before .before .before .before .before .before .before .before .before .first-run .ensures .0 w w refl) ∙ law.called-from (c .before .before .before .before .before .before .before .before .before .before .before .before .before .before .before .before .before .before .before .before .before .before .before .before .before .before .before .before .before .args .st) (c .before .before .before .before .before .before .before .before .before .before .before .before .before .before .before .before .before .before .before .before .before .before .before .before .before .before .before .before .before .args .buf .now) (c .before .before .before .before .before .before .before .before .before .before .before .before .before .before .before .before .before .before .before .before .before .before .before .before .before .before .before .before .before .args .list) (c .before .before .before .before .before .before .before .before .before .before .before .before .before .before .before .before .before .before .before .before .before .before .before .before .before .before .before .before .before .args .rec .now) (c .before .before .before .before .before .before .before .before .before .before .before .before .before .before .before .before .before .before .before .before .before .before .before .before .before .before .before .before .before .args .log .now) k (c .before .before .before .before .before .before .before .before .before .before .before .before .before .before .before .before .before .before .before .before .before .before .before .before .before .before .before .before .before .args .b) (c .before .before .before .before .before .before .before .before .before .before .before .before .before .before .before .before .before .before .before .before .before .before .before .before .before .before .before .before .before .args .first .now) (c .before .before .before .before .before .before .before .before .before .before .before .before .before .before .before .before .before .before .before .before .before .before .before .before .before .before .before .before .before .args .second .now) (c .before .before .before .before .before .before .before .before .before .before .before .before .before .before .before .before .before .before .before .before .before .before .before .if1 .left) h)
 
--- src/lib.rt:107:34
 slice-aggregate-wind : tie.Need-slice-aggregate-wind
 slice-aggregate-wind c = search needs
 
--- src/lib.rt:107:15
 wind-requires : tie.Need-wind-requires
 wind-requires c κs = (search needs, turn.over-is (c .before .before .before .before .before .before .before .before .before .first-run .result) (c .before .before .before .before .before .before .before .before .before .first-run .ensures .1) (sym (c .before .before .before .before .touched .ensures) ∙ c .before .before .before .if2 .left))
 
--- src/lib.rt:107:5
 with-list-requires : tie.Need-with-list-requires
 with-list-requires c κs = search needs
 
--- src/lib.rt:76:1
 same-length-3 : tie.Need-same-length-3
 same-length-3 c = search needs
 
--- src/lib.rt:76:1
 same-length-4 : tie.Need-same-length-4
 same-length-4 c = search needs
 
--- src/lib.rt:76:1
 returns-3 : tie.Need-returns-3
 returns-3 c = λ k h. let w = world (c .before .before .before .before .before .before .before .before .before .before .before .before .before .before .before .before .before .before .before .before .before .before .before .before .before .before .before .before .args .st) (c .before .before .before .before .before .before .before .before .before .before .before .before .before .before .before .before .before .before .before .before .before .before .before .before .before .before .before .before .args .buf .now) (c .before .before .before .before .before .before .before .before .before .before .before .before .before .before .before .before .before .before .before .before .before .before .before .before .before .before .before .before .args .list) in let s : c .before .before .before .before .before .before .before .before .before .before .before .before .before .before .before .before .before .before .before .copy-over .last .0 ≡ c .before .before .before .before .before .before .before .before .before .before .before .before .before .before .before .before .before .before .before .before .before .before .before .before .before .before .before .before .args .buf .now = c .before .before .before .before .before .before .before .before .before .before .before .before .before .before .before .before .before .before .before .copy-over .ensures ∙ over-whole _ _ (omega (arith, c .before .before .before .before .before .before .before .before .before .before .before .before .before .before .before .before .before .before .before .before .before .before .if1 .left)) in let t = sym (c .before .before .before .before .before .before .before .before .touched .ensures) ∙ c .before .before .before .before .before .before .before .if2 .left in rw (c .with-list .ensures) (law.list-kept _ (c .before .before .before .before .before .before .before .before .before .before .before .before .before .first-run .result .next) (c .before .before .before .before .before .before .before .before .before .before .before .before .before .before .before .before .before .before .before .before .before .before .before .before .before .before .before .before .args .list) _ _ ∙ (c .before .before .before .wind .ensures (argsOf (c .before .before .before .before .before .before .before .before .before .before .before .before .before .before .before .before .before .before .before .before .before .before .before .before .before .before .before .before .args .b .job) (c .before .before .before .before .before .before .before .before .before .before .before .before .before .before .before .before .before .before .before .before .before .before .before .before .before .before .before .before .args .first .now) (c .before .before .before .before .before .before .before .before .before .before .before .before .before .before .before .before .before .before .before .before .before .before .before .before .before .before .before .before .args .second .now)) (c .before .before .before .before .before .before .before .before .before .before .before .before .before .before .before .before .before .before .before .before .before .before .before .before .before .before .before .before .args .rec .now) _ (c .before .before .before .before .before .before .before .before .before .before .before .before .before .before .before .before .before .before .before .before .before .before .before .before .before .before .before .before .args .list) (c .before .before .before .before .before .before .before .before .before .before .before .before .before .before .before .before .before .before .before .before .before .before .before .before .before .before .before .before .args .list) ∙ (rw s (rw (turn.untouched (c .before .before .before .before .before .before .before .before .before .before .before .before .before .first-run .result) (c .before .before .before .before .before .before .before .before .before .before .before .before .before .before .before .before .before .before .before .before .before .before .before .before .before .before .before .before .args .list) t) at (c .before .before .before .before .before .before .before .before .before .before .before .before .before .first-run .ensures .0 w w refl)) ∙ law.called-from (c .before .before .before .before .before .before .before .before .before .before .before .before .before .before .before .before .before .before .before .before .before .before .before .before .before .before .before .before .args .st) (c .before .before .before .before .before .before .before .before .before .before .before .before .before .before .before .before .before .before .before .before .before .before .before .before .before .before .before .before .args .buf .now) (c .before .before .before .before .before .before .before .before .before .before .before .before .before .before .before .before .before .before .before .before .before .before .before .before .before .before .before .before .args .list) (c .before .before .before .before .before .before .before .before .before .before .before .before .before .before .before .before .before .before .before .before .before .before .before .before .before .before .before .before .args .rec .now) (c .before .before .before .before .before .before .before .before .before .before .before .before .before .before .before .before .before .before .before .before .before .before .before .before .before .before .before .before .args .log .now) k (c .before .before .before .before .before .before .before .before .before .before .before .before .before .before .before .before .before .before .before .before .before .before .before .before .before .before .before .before .args .b) (c .before .before .before .before .before .before .before .before .before .before .before .before .before .before .before .before .before .before .before .before .before .before .before .before .before .before .before .before .args .first .now) (c .before .before .before .before .before .before .before .before .before .before .before .before .before .before .before .before .before .before .before .before .before .before .before .before .before .before .before .before .args .second .now) (c .before .before .before .before .before .before .before .before .before .before .before .before .before .before .before .before .before .before .before .before .before .before .if1 .left) h)))
 

@@ -1,31 +1,20 @@
--- <<
 use Rattle.definition.specs.Calls.{Call}
--- >>
 use borrow.Author.Needs.{needs}
 use Rattle.cyw43.proofs.calls.wifi_poll.Statement.{statement}
 use Rattle.cyw43.proofs.calls.wifi_poll.Tie as tie
-use Rattle.cyw43.proofs.calls.wifi_poll.Reads as reads
-use Rattle.cyw43.proofs.calls.wifi_poll.Lts as lts
-use Rattle.call.proofs.plain.Reads as plain-reads
-use Rattle.jobs.proofs.plain.poll_begun.Reads as poll-begun-reads
 
--- src/calls.rt:84:11
 poll-begun-requires : tie.Need-poll-begun-requires
 poll-begun-requires c κs = search needs
 
--- src/calls.rt:84:5
 plain-requires : tie.Need-plain-requires
 plain-requires c κs = search needs
 
--- src/calls.rt:81:1
 same-length : tie.Need-same-length
 same-length c = search needs
 
--- src/calls.rt:81:1
 same-length-2 : tie.Need-same-length-2
 same-length-2 c = search needs
 
--- src/calls.rt:81:1
 returns : tie.Need-returns
 returns c = c .before .before .before .before .plain .ensures (Call.wifiPoll) (c .before .before .before .before .before .before .before .poll-begun .ensures)
 

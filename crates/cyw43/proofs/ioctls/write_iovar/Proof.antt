@@ -1,50 +1,34 @@
--- <<
 use Rattle.definition.specs.Calls.{Call}
 use native.Mathlib.Omega.{arith}
 use lib.ListN.{length-take}
--- >>
 use borrow.Author.Needs.{needs}
 use Rattle.cyw43.proofs.ioctls.write_iovar.Statement.{statement}
 use Rattle.cyw43.proofs.ioctls.write_iovar.Tie as tie
-use Rattle.cyw43.proofs.ioctls.write_iovar.Reads as reads
-use Rattle.cyw43.proofs.ioctls.write_iovar.Lts as lts
-use Rattle.call.proofs.whole.Reads as whole-reads
-use Rattle.jobs.proofs.bytes.at_most.Reads as at-most-reads
-use Rattle.jobs.proofs.bytes.variable_begun.Reads as variable-begun-reads
 
--- src/ioctls.rt:95:9
 at-most-requires : tie.Need-at-most-requires
 at-most-requires c κs = search needs
 
--- src/ioctls.rt:96:9
 at-most-requires-2 : tie.Need-at-most-requires-2
 at-most-requires-2 c κs = search needs
 
--- src/ioctls.rt:97:9
 variable-begun-requires : tie.Need-variable-begun-requires
 variable-begun-requires c κs = search needs
 
--- src/ioctls.rt:98:14
 slice-aggregate-whole : tie.Need-slice-aggregate-whole
 slice-aggregate-whole c = omega (arith, length-take (c .before .before .before .at-most .result) (c .before .before .before .before .before .before .before .before .before .args .name .now), c .before .before .before .at-most .ensures .1 .2)
 
--- src/ioctls.rt:98:26
 slice-aggregate-whole-2 : tie.Need-slice-aggregate-whole-2
 slice-aggregate-whole-2 c = omega (arith, length-take (c .before .before .before .at-most2 .result) (c .before .before .before .before .before .before .before .before .before .before .args .bytes .now), c .before .before .before .at-most2 .ensures .1 .2)
 
--- src/ioctls.rt:98:5
 whole-requires : tie.Need-whole-requires
 whole-requires c κs = omega (arith, length-take (c .before .before .before .before .before .before .at-most .result) (c .before .before .before .before .before .before .before .before .before .before .before .before .args .name .now), c .before .before .before .before .before .before .at-most .ensures .1 .1, length-take (c .before .before .before .before .before .at-most2 .result) (c .before .before .before .before .before .before .before .before .before .before .before .before .args .bytes .now), c .before .before .before .before .before .at-most2 .ensures .1 .1)
 
--- src/ioctls.rt:83:1
 same-length : tie.Need-same-length
 same-length c = search needs
 
--- src/ioctls.rt:83:1
 same-length-2 : tie.Need-same-length-2
 same-length-2 c = search needs
 
--- src/ioctls.rt:83:1
 returns : tie.Need-returns
 returns c = c .before .before .before .before .whole .ensures (Call.writeIovar (c .before .before .before .before .before .before .before .before .before .before .before .before .before .before .before .before .before .args .interface) (c .before .before .before .before .before .before .before .before .before .before .before .before .before .before .before .before .before .args .name .now) (c .before .before .before .before .before .before .before .before .before .before .before .before .before .before .before .before .before .args .bytes .now)) (rw (c .before .before .before .before .before .before .before .before .before .before .before .at-most .ensures .0, c .before .before .before .before .before .before .before .before .before .before .at-most2 .ensures .0) (c .before .before .before .before .before .before .before .before .before .variable-begun .ensures))
 

@@ -1,4 +1,3 @@
--- <<
 use mathlib.Core.Path.{sym, _∙_}
 use mathlib.Core.List.{[]}
 use Rattle.definition.specs.Calls.{Call}
@@ -6,71 +5,49 @@ use Rattle.session_bytes.proofs.Laws.{session-length}
 use Rattle.entry.proofs.Laws.{entered-none}
 use native.Mathlib.Omega.{arith}
 use lib.ListN.{length-take}
--- >>
 use borrow.Author.Needs.{needs}
 use Rattle.cyw43_c.proofs.entries.cyw43_send.Statement.{statement}
 use Rattle.cyw43_c.proofs.entries.cyw43_send.Tie as tie
-use Rattle.cyw43_c.proofs.entries.cyw43_send.Reads as reads
-use Rattle.cyw43_c.proofs.entries.cyw43_send.Lts as lts
-use Rattle.entry.proofs.enter.enter.Reads as enter-reads
-use Rattle.jobs.proofs.bytes.at_most.Reads as at-most-reads
-use Rattle.jobs.proofs.bytes.send_begun.Reads as send-begun-reads
-use Rattle.session_bytes.proofs.session.is_session.Reads as is-session-reads
-use Rattle.session_bytes.proofs.session.state_in.Reads as state-in-reads
 
--- src/entries.rt:72:8
 is-session-requires : tie.Need-is-session-requires
 is-session-requires c κs = search needs
 
--- src/entries.rt:73:13
 state-in-requires : tie.Need-state-in-requires
 state-in-requires c κs = session-length (c .before .before .before .before .before .before .before .before .before .before .args .session .now) (sym (c .before .before .is-session .ensures) ∙ c .before .if1 .taken)
 
--- src/entries.rt:74:13
 at-most-requires : tie.Need-at-most-requires
 at-most-requires c κs = search needs
 
--- src/entries.rt:76:13
 send-begun-requires : tie.Need-send-begun-requires
 send-begun-requires c κs = search needs
 
--- src/entries.rt:77:25
 slice-aggregate-enter : tie.Need-slice-aggregate-enter
 slice-aggregate-enter c = omega (arith, length-take (c .before .before .at-most .result) (c .before .before .before .before .before .before .before .before .before .before .before .before .before .before .args .frame .now), c .before .before .at-most .ensures .1 .2)
 
--- src/entries.rt:77:38
 slice-aggregate-enter-2 : tie.Need-slice-aggregate-enter-2
 slice-aggregate-enter-2 c = search needs
 
--- src/entries.rt:77:9
 enter-requires : tie.Need-enter-requires
 enter-requires c κs = (omega (arith, length-take (c .before .before .before .before .before .before .before .at-most .result) (c .before .before .before .before .before .before .before .before .before .before .before .before .before .before .before .before .before .before .before .args .frame .now), c .before .before .before .before .before .before .before .at-most .ensures .1 .1), (sym (c .before .before .before .before .before .before .before .before .before .before .before .is-session .ensures) ∙ c .before .before .before .before .before .before .before .before .before .before .if1 .taken, c .before .before .before .before .before .before .before .before .state-in .ensures))
 
--- src/entries.rt:77:9
 same-length : tie.Need-same-length
 same-length c = search needs
 
--- src/entries.rt:77:9
 same-length-2 : tie.Need-same-length-2
 same-length-2 c = search needs
 
--- src/entries.rt:77:9
 same-length-3 : tie.Need-same-length-3
 same-length-3 c = search needs
 
--- src/entries.rt:77:9
 same-length-4 : tie.Need-same-length-4
 same-length-4 c = search needs
 
--- src/entries.rt:77:9
 returns : tie.Need-returns
 returns c = c .before .before .before .before .before .before .before .before .enter .ensures (Call.sendData (c .before .before .before .before .before .before .before .before .before .before .before .before .before .before .before .before .before .before .before .before .before .before .before .before .before .before .before .before .args .interface) (c .before .before .before .before .before .before .before .before .before .before .before .before .before .before .before .before .before .before .before .before .before .before .before .before .before .before .before .before .args .frame .now)) (rw (c .before .before .before .before .before .before .before .before .before .before .before .before .before .before .before .before .at-most .ensures .0) (c .before .before .before .before .before .before .before .before .before .before .before .before .before .before .before .send-begun .ensures))
 
--- src/entries.rt:60:1
 same-length-5 : tie.Need-same-length-5
 same-length-5 c = search needs
 
--- src/entries.rt:60:1
 returns-2 : tie.Need-returns-2
 returns-2 c = entered-none (Call.sendData (c .before .before .before .before .before .before .before .before .before .args .interface) (c .before .before .before .before .before .before .before .before .before .args .frame .now)) (c .before .before .before .before .before .before .before .before .before .args .session .now) (c .before .before .before .before .before .before .before .before .before .args .rec .now) (c .before .before .before .before .before .before .before .before .before .args .log .now) (c .before .before .before .before .before .before .before .before .before .args .buf .now) [] (c .before .before .before .before .before .before .before .before .before .args .result .now) (sym (c .before .is-session .ensures) ∙ c .if1 .left)
 

@@ -1,59 +1,40 @@
--- <<
 use mathlib.Core.Path.{sym, _∙_}
-use mathlib.Core.List.{[]}
 use lib.ListN.{length}
 use Rattle.definition.specs.Calls.{Call}
 use Rattle.session_bytes.specs.Session.{sessionIn}
 use Rattle.session_bytes.proofs.Laws.{session-length}
 use Rattle.entry.proofs.Laws.{entered-known, entered-none}
--- >>
 use borrow.Author.Needs.{needs}
 use Rattle.cyw43_c.proofs.entries.cyw43_take.Statement.{statement}
 use Rattle.cyw43_c.proofs.entries.cyw43_take.Tie as tie
-use Rattle.cyw43_c.proofs.entries.cyw43_take.Reads as reads
-use Rattle.cyw43_c.proofs.entries.cyw43_take.Lts as lts
-use Rattle.ending.proofs.take.take.Reads as take-reads
-use Rattle.entry.proofs.hand.hand_state.Reads as hand-state-reads
-use Rattle.session_bytes.proofs.session.is_session.Reads as is-session-reads
-use Rattle.session_bytes.proofs.session.state_in.Reads as state-in-reads
 
--- src/entries.rt:92:8
 is-session-requires : tie.Need-is-session-requires
 is-session-requires c κs = search needs
 
--- src/entries.rt:93:13
 state-in-requires : tie.Need-state-in-requires
 state-in-requires c κs = session-length (c .before .before .before .before .before .before .before .before .args .session .now) (sym (c .before .before .is-session .ensures) ∙ c .before .if1 .taken)
 
--- src/entries.rt:94:27
 take-requires : tie.Need-take-requires
 take-requires c κs = search needs
 
--- src/entries.rt:94:9
 hand-state-requires : tie.Need-hand-state-requires
 hand-state-requires c κs = sym (c .before .before .before .before .before .before .before .before .before .is-session .ensures) ∙ c .before .before .before .before .before .before .before .before .if1 .taken
 
--- src/entries.rt:94:9
 same-length : tie.Need-same-length
 same-length c = search needs
 
--- src/entries.rt:94:9
 same-length-2 : tie.Need-same-length-2
 same-length-2 c = search needs
 
--- src/entries.rt:94:9
 same-length-3 : tie.Need-same-length-3
 same-length-3 c = search needs
 
--- src/entries.rt:94:9
 returns : tie.Need-returns
 returns c = λ rec log. c .before .before .before .before .hand-state .ensures log (c .before .before .before .before .before .before .before .before .before .before .before .before .before .before .before .before .before .before .before .before .args .buf .now) _ ∙ entered-known (Call.getRxBuf (length (c .before .before .before .before .before .before .before .before .before .before .before .before .before .before .before .before .before .before .before .before .args .out .now))) (c .before .before .before .before .before .before .before .before .before .before .before .before .before .before .before .before .before .before .before .before .args .session .now) rec log (c .before .before .before .before .before .before .before .before .before .before .before .before .before .before .before .before .before .before .before .before .args .buf .now) (c .before .before .before .before .before .before .before .before .before .before .before .before .before .before .before .before .before .before .before .before .args .out .now) (c .before .before .before .before .before .before .before .before .before .before .before .before .before .before .before .before .before .before .before .before .args .result .now) _ _ (sym (c .before .before .before .before .before .before .before .before .before .before .before .before .before .before .is-session .ensures) ∙ c .before .before .before .before .before .before .before .before .before .before .before .before .before .if1 .taken) (c .before .before .before .before .before .before .before .before .before .before .before .state-in .ensures) (c .before .before .before .before .before .before .before .before .before .take .ensures rec log (sessionIn (c .before .before .before .before .before .before .before .before .before .before .before .before .before .before .before .before .before .before .before .before .args .session .now) .list))
 
--- src/entries.rt:83:1
 same-length-4 : tie.Need-same-length-4
 same-length-4 c = search needs
 
--- src/entries.rt:83:1
 returns-2 : tie.Need-returns-2
 returns-2 c = λ rec log. entered-none (Call.getRxBuf (length (c .before .before .before .before .before .before .before .args .out .now))) (c .before .before .before .before .before .before .before .args .session .now) rec log (c .before .before .before .before .before .before .before .args .buf .now) (c .before .before .before .before .before .before .before .args .out .now) (c .before .before .before .before .before .before .before .args .result .now) (sym (c .before .is-session .ensures) ∙ c .if1 .left)
 

@@ -1,61 +1,42 @@
--- <<
 use mathlib.Core.Path.{sym, _∙_}
 use mathlib.Core.List.{[]}
 use Rattle.definition.specs.Calls.{Call}
 use Rattle.session_bytes.proofs.Laws.{session-length}
 use Rattle.entry.proofs.Laws.{entered-none}
--- >>
 use borrow.Author.Needs.{needs}
 use Rattle.cyw43_c.proofs.settings.cyw43_up.Statement.{statement}
 use Rattle.cyw43_c.proofs.settings.cyw43_up.Tie as tie
-use Rattle.cyw43_c.proofs.settings.cyw43_up.Reads as reads
-use Rattle.cyw43_c.proofs.settings.cyw43_up.Lts as lts
-use Rattle.entry.proofs.enter.enter_plain.Reads as enter-plain-reads
-use Rattle.jobs.proofs.plain.up_begun.Reads as up-begun-reads
-use Rattle.session_bytes.proofs.session.is_session.Reads as is-session-reads
-use Rattle.session_bytes.proofs.session.state_in.Reads as state-in-reads
 
--- src/settings.rt:126:8
 is-session-requires : tie.Need-is-session-requires
 is-session-requires c κs = search needs
 
--- src/settings.rt:127:13
 state-in-requires : tie.Need-state-in-requires
 state-in-requires c κs = session-length (c .before .before .before .before .before .before .before .before .before .args .session .now) (sym (c .before .before .is-session .ensures) ∙ c .before .if1 .taken)
 
--- src/settings.rt:128:28
 up-begun-requires : tie.Need-up-begun-requires
 up-begun-requires c κs = search needs
 
--- src/settings.rt:128:9
 enter-plain-requires : tie.Need-enter-plain-requires
 enter-plain-requires c κs = (sym (c .before .before .before .before .before .before .before .before .is-session .ensures) ∙ c .before .before .before .before .before .before .before .if1 .taken, c .before .before .before .before .before .state-in .ensures)
 
--- src/settings.rt:128:9
 same-length : tie.Need-same-length
 same-length c = search needs
 
--- src/settings.rt:128:9
 same-length-2 : tie.Need-same-length-2
 same-length-2 c = search needs
 
--- src/settings.rt:128:9
 same-length-3 : tie.Need-same-length-3
 same-length-3 c = search needs
 
--- src/settings.rt:128:9
 same-length-4 : tie.Need-same-length-4
 same-length-4 c = search needs
 
--- src/settings.rt:128:9
 returns : tie.Need-returns
 returns c = c .before .before .before .before .before .before .before .before .enter-plain .ensures (Call.up) (c .before .before .before .before .before .before .before .before .before .before .before .before .before .up-begun .ensures)
 
--- src/settings.rt:116:1
 same-length-5 : tie.Need-same-length-5
 same-length-5 c = search needs
 
--- src/settings.rt:116:1
 returns-2 : tie.Need-returns-2
 returns-2 c = entered-none (Call.up) (c .before .before .before .before .before .before .before .before .args .session .now) (c .before .before .before .before .before .before .before .before .args .rec .now) (c .before .before .before .before .before .before .before .before .args .log .now) (c .before .before .before .before .before .before .before .before .args .buf .now) [] (c .before .before .before .before .before .before .before .before .args .result .now) (sym (c .before .is-session .ensures) ∙ c .if1 .left)
 

@@ -1,4 +1,3 @@
--- <<
 use mathlib.Core.Path.{sym, _∙_}
 use mathlib.Core.List.{[]}
 use Rattle.definition.specs.Calls.{Call}
@@ -6,75 +5,52 @@ use Rattle.session_bytes.proofs.Laws.{session-length}
 use Rattle.entry.proofs.Laws.{entered-none}
 use native.Mathlib.Omega.{arith}
 use lib.ListN.{length-take}
--- >>
 use borrow.Author.Needs.{needs}
 use Rattle.cyw43_c.proofs.settings.cyw43_variable.Statement.{statement}
 use Rattle.cyw43_c.proofs.settings.cyw43_variable.Tie as tie
-use Rattle.cyw43_c.proofs.settings.cyw43_variable.Reads as reads
-use Rattle.cyw43_c.proofs.settings.cyw43_variable.Lts as lts
-use Rattle.entry.proofs.enter.enter.Reads as enter-reads
-use Rattle.jobs.proofs.bytes.at_most.Reads as at-most-reads
-use Rattle.jobs.proofs.bytes.variable_begun.Reads as variable-begun-reads
-use Rattle.session_bytes.proofs.session.is_session.Reads as is-session-reads
-use Rattle.session_bytes.proofs.session.state_in.Reads as state-in-reads
 
--- src/settings.rt:106:8
 is-session-requires : tie.Need-is-session-requires
 is-session-requires c κs = search needs
 
--- src/settings.rt:107:13
 state-in-requires : tie.Need-state-in-requires
 state-in-requires c κs = session-length (c .before .before .before .before .before .before .before .before .before .before .before .args .session .now) (sym (c .before .before .is-session .ensures) ∙ c .before .if1 .taken)
 
--- src/settings.rt:108:13
 at-most-requires : tie.Need-at-most-requires
 at-most-requires c κs = search needs
 
--- src/settings.rt:109:13
 at-most-requires-2 : tie.Need-at-most-requires-2
 at-most-requires-2 c κs = search needs
 
--- src/settings.rt:110:13
 variable-begun-requires : tie.Need-variable-begun-requires
 variable-begun-requires c κs = search needs
 
--- src/settings.rt:111:25
 slice-aggregate-enter : tie.Need-slice-aggregate-enter
 slice-aggregate-enter c = omega (arith, length-take (c .before .before .before .at-most .result) (c .before .before .before .before .before .before .before .before .before .before .before .before .before .before .before .before .args .name .now), c .before .before .before .at-most .ensures .1 .2)
 
--- src/settings.rt:111:37
 slice-aggregate-enter-2 : tie.Need-slice-aggregate-enter-2
 slice-aggregate-enter-2 c = omega (arith, length-take (c .before .before .before .at-most2 .result) (c .before .before .before .before .before .before .before .before .before .before .before .before .before .before .before .before .before .args .bytes .now), c .before .before .before .at-most2 .ensures .1 .2)
 
--- src/settings.rt:111:9
 enter-requires : tie.Need-enter-requires
 enter-requires c κs = (omega (arith, length-take (c .before .before .before .before .before .before .before .before .at-most .result) (c .before .before .before .before .before .before .before .before .before .before .before .before .before .before .before .before .before .before .before .before .before .args .name .now), c .before .before .before .before .before .before .before .before .at-most .ensures .1 .1, length-take (c .before .before .before .before .before .before .before .at-most2 .result) (c .before .before .before .before .before .before .before .before .before .before .before .before .before .before .before .before .before .before .before .before .before .args .bytes .now), c .before .before .before .before .before .before .before .at-most2 .ensures .1 .1), (sym (c .before .before .before .before .before .before .before .before .before .before .before .before .is-session .ensures) ∙ c .before .before .before .before .before .before .before .before .before .before .before .if1 .taken, c .before .before .before .before .before .before .before .before .before .state-in .ensures))
 
--- src/settings.rt:111:9
 same-length : tie.Need-same-length
 same-length c = search needs
 
--- src/settings.rt:111:9
 same-length-2 : tie.Need-same-length-2
 same-length-2 c = search needs
 
--- src/settings.rt:111:9
 same-length-3 : tie.Need-same-length-3
 same-length-3 c = search needs
 
--- src/settings.rt:111:9
 same-length-4 : tie.Need-same-length-4
 same-length-4 c = search needs
 
--- src/settings.rt:111:9
 returns : tie.Need-returns
 returns c = c .before .before .before .before .before .before .before .before .enter .ensures (Call.writeIovar (c .before .before .before .before .before .before .before .before .before .before .before .before .before .before .before .before .before .before .before .before .before .before .before .before .before .before .before .before .before .before .args .interface) (c .before .before .before .before .before .before .before .before .before .before .before .before .before .before .before .before .before .before .before .before .before .before .before .before .before .before .before .before .before .before .args .name .now) (c .before .before .before .before .before .before .before .before .before .before .before .before .before .before .before .before .before .before .before .before .before .before .before .before .before .before .before .before .before .before .args .bytes .now)) (rw (c .before .before .before .before .before .before .before .before .before .before .before .before .before .before .before .before .before .at-most .ensures .0, c .before .before .before .before .before .before .before .before .before .before .before .before .before .before .before .before .at-most2 .ensures .0) (c .before .before .before .before .before .before .before .before .before .before .before .before .before .before .before .variable-begun .ensures))
 
--- src/settings.rt:93:1
 same-length-5 : tie.Need-same-length-5
 same-length-5 c = search needs
 
--- src/settings.rt:93:1
 returns-2 : tie.Need-returns-2
 returns-2 c = entered-none (Call.writeIovar (c .before .before .before .before .before .before .before .before .before .before .args .interface) (c .before .before .before .before .before .before .before .before .before .before .args .name .now) (c .before .before .before .before .before .before .before .before .before .before .args .bytes .now)) (c .before .before .before .before .before .before .before .before .before .before .args .session .now) (c .before .before .before .before .before .before .before .before .before .before .args .rec .now) (c .before .before .before .before .before .before .before .before .before .before .args .log .now) (c .before .before .before .before .before .before .before .before .before .before .args .buf .now) [] (c .before .before .before .before .before .before .before .before .before .before .args .result .now) (sym (c .before .is-session .ensures) ∙ c .if1 .left)
 

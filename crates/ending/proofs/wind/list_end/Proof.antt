@@ -1,35 +1,25 @@
--- <<
 use Rattle.turn.specs.Onward as to
--- >>
 use borrow.Author.Needs.{needs}
 use Rattle.ending.proofs.wind.list_end.Statement.{statement}
 use Rattle.ending.proofs.wind.list_end.Tie as tie
-use Rattle.ending.proofs.wind.list_end.Reads as reads
-use Rattle.ending.proofs.wind.list_end.Lts as lts
 
--- src/wind.rt:38:27
 enum-told : tie.Need-enum-told
 enum-told c = search needs
 
--- src/wind.rt:39:29
 enum-told-2 : tie.Need-enum-told-2
 enum-told-2 c = search needs
 
--- src/wind.rt:40:29
 enum-told-3 : tie.Need-enum-told-3
 enum-told-3 c = search needs
 
--- src/wind.rt:34:1
 returns : tie.Need-returns
 unfolding to.listEnd
 returns c = simp (c .enum-told .given .1)
 
--- src/wind.rt:34:1
 returns-2 : tie.Need-returns-2
 unfolding to.listEnd
 returns-2 c = simp (c .enum-told2 .given .1)
 
--- src/wind.rt:34:1
 returns-3 : tie.Need-returns-3
 unfolding to.listEnd
 returns-3 c = simp (c .enum-told3 .given .1)

@@ -1,21 +1,15 @@
--- <<
 use borrow.Author.Needs.{needs}
 use mathlib.Core.Path.{refl}
 use borrow.Author.Tests.{le-leb, lt-leb}
 use native.Mathlib.Omega.{arith}
 use Rattle.jobs.specs.Jobs as to
--- >>
 use Rattle.jobs.proofs.bytes.at_most.Statement.{statement}
 use Rattle.jobs.proofs.bytes.at_most.Tie as tie
-use Rattle.jobs.proofs.bytes.at_most.Reads as reads
-use Rattle.jobs.proofs.bytes.at_most.Lts as lts
 
--- src/bytes.rt:24:1
 returns : tie.Need-returns
 unfolding to.cut
 returns c = (rw (le-leb _ _ (c .if1 .taken)), (λ h. refl, search needs, search needs))
 
--- src/bytes.rt:24:1
 returns-2 : tie.Need-returns-2
 unfolding to.cut
 returns-2 c = (rw (lt-leb _ _ (c .if1 .left)), (λ h. omega (arith, c .if1 .left, h), search needs, search needs))

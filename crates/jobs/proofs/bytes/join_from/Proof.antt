@@ -1,4 +1,3 @@
--- <<
 use native.Mathlib.Omega.{arith}
 use lib.Dec.{ltb}
 use lib.ListN.{length, length-take}
@@ -8,47 +7,31 @@ use Rattle.definition.specs.Prog.{world}
 use Rattle.definition.specs.Join.{tooLong, authOf}
 use Rattle.jobs.specs.Jobs as to
 use Rattle.jobs.proofs.Starts as law
--- >>
 use borrow.Author.Needs.{needs}
 use Rattle.jobs.proofs.bytes.join_from.Statement.{statement}
 use Rattle.jobs.proofs.bytes.join_from.Tie as tie
-use Rattle.jobs.proofs.bytes.join_from.Reads as reads
-use Rattle.jobs.proofs.bytes.join_from.Lts as lts
-use Rattle.effects.proofs.args.lens.Reads as lens-reads
-use Rattle.inner.proofs.begin.join_start.Reads as join-start-reads
-use Rattle.jobs.proofs.jobs.join_job.Reads as join-job-reads
-use Rattle.requests.proofs.security.auth_of.Reads as auth-of-reads
-use Rattle.requests.proofs.security.too_long.Reads as too-long-reads
 
--- src/bytes.rt:38:9
 auth-of-requires : tie.Need-auth-of-requires
 auth-of-requires c κs = search needs
 
--- src/bytes.rt:39:25
 too-long-requires : tie.Need-too-long-requires
 too-long-requires c κs = search needs
 
--- src/bytes.rt:39:9
 join-job-requires : tie.Need-join-job-requires
 join-job-requires c κs = search needs
 
--- src/bytes.rt:42:34
 slice-aggregate-lens : tie.Need-slice-aggregate-lens
 slice-aggregate-lens c = omega (arith, length-take (c .before .before .before .before .before .before .args .n) (c .before .before .before .before .before .before .args .ssid .now), c .before .before .before .before .before .before .pre .1 .0 .2)
 
--- src/bytes.rt:42:46
 slice-aggregate-lens-2 : tie.Need-slice-aggregate-lens-2
 slice-aggregate-lens-2 c = omega (arith, length-take (c .before .before .before .before .before .before .before .args .m) (c .before .before .before .before .before .before .before .args .passphrase .now), c .before .before .before .before .before .before .before .pre .1 .1 .2)
 
--- src/bytes.rt:42:29
 lens-requires : tie.Need-lens-requires
 lens-requires c κs = omega (arith, length-take (c .before .before .before .before .before .before .before .args .n) (c .before .before .before .before .before .before .before .args .ssid .now), length-take (c .before .before .before .before .before .before .before .args .m) (c .before .before .before .before .before .before .before .args .passphrase .now), c .before .before .before .before .before .before .before .pre .1 .0 .1, c .before .before .before .before .before .before .before .pre .1 .1 .1)
 
--- src/bytes.rt:42:15
 join-start-requires : tie.Need-join-start-requires
 join-start-requires c κs = search needs
 
--- src/bytes.rt:32:1
 returns : tie.Need-returns
 returns c = λ b l. rw (c .join-start .ensures, c .before .lens .ensures (to.joinJob (authOf (c .before .before .before .before .before .before .before .before .before .args .auth)) (tooLong (authOf (c .before .before .before .before .before .before .before .before .before .args .auth)) (length (c .before .before .before .before .before .before .before .before .before .args .passphrase .now))) (ltb 32 (length (c .before .before .before .before .before .before .before .before .before .args .ssid .now)))), c .before .before .before .before .join-job .ensures, c .before .before .before .before .before .too-long .ensures, c .before .before .before .before .before .before .auth-of .ensures) (law.join-is (eventOf [] 0) (world (c .before .before .before .before .before .before .before .before .before .args .st) b l) (c .before .before .before .before .before .before .before .before .before .args .auth) (c .before .before .before .before .before .before .before .before .before .args .ssid .now) (c .before .before .before .before .before .before .before .before .before .args .passphrase .now) _ _ (c .before .before .before .before .before .before .before .before .before .pre .0) (c .before .before .before .before .before .before .before .before .before .pre .1 .0 .0) (c .before .before .before .before .before .before .before .before .before .pre .1 .0 .1) (c .before .before .before .before .before .before .before .before .before .pre .1 .1 .0) (c .before .before .before .before .before .before .before .before .before .pre .1 .1 .1))
 

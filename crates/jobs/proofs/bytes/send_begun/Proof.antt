@@ -1,4 +1,3 @@
--- <<
 use native.Mathlib.Omega.{arith}
 use borrow.Author.Tests.{leb-true, lt-leb}
 use mathlib.Core.Path.{sym, _∙_}
@@ -7,50 +6,34 @@ use Rattle.definition.specs.Event.{eventOf}
 use Rattle.definition.specs.Prog.{world}
 use Rattle.definition.specs.Calls.{Call}
 use Rattle.jobs.proofs.Starts as law
--- >>
 use borrow.Author.Needs.{needs}
 use Rattle.jobs.proofs.bytes.send_begun.Statement.{statement}
 use Rattle.jobs.proofs.bytes.send_begun.Tie as tie
-use Rattle.jobs.proofs.bytes.send_begun.Reads as reads
-use Rattle.jobs.proofs.bytes.send_begun.Lts as lts
-use Rattle.inner.proofs.begin.frame_start.Reads as frame-start-reads
-use Rattle.jobs.proofs.jobs.frame_job.Reads as frame-job-reads
-use Rattle.jobs.proofs.plain.invalid_arg.Reads as invalid-arg-reads
-use Rattle.requests.proofs.numbers.is_interface.Reads as is-interface-reads
 
--- src/bytes.rt:62:8
 is-interface-requires : tie.Need-is-interface-requires
 is-interface-requires c κs = search needs
 
--- src/bytes.rt:64:17
 frame-job-requires : tie.Need-frame-job-requires
 frame-job-requires c κs = search needs
 
--- src/bytes.rt:67:38
 cast-frame-start : tie.Need-cast-frame-start
 cast-frame-start c = omega (arith, leb-true (c .before .before .before .before .before .args .interface) 2 (sym (c .before .before .before .is-interface .ensures) ∙ c .before .before .if1 .taken))
 
--- src/bytes.rt:67:23
 frame-start-requires : tie.Need-frame-start-requires
 frame-start-requires c κs = search needs
 
--- src/bytes.rt:65:13
 returns : tie.Need-returns
 returns c = λ b l. rw (law.cut-whole 2030 (c .before .before .before .before .before .before .args .frame .now) (c .before .before .if2 .taken), c .frame-start .ensures, c .before .frame-job .ensures) (law.send-is (eventOf [] 0) (world (c .before .before .before .before .before .before .args .st) b l) (c .before .before .before .before .before .before .args .interface) (c .before .before .before .before .before .before .args .frame .now) (sym (c .before .before .before .before .is-interface .ensures) ∙ c .before .before .before .if1 .taken) (c .before .before .if2 .taken))
 
--- src/bytes.rt:70:9
 invalid-arg-requires : tie.Need-invalid-arg-requires
 invalid-arg-requires c κs = search needs
 
--- src/bytes.rt:70:9
 returns-2 : tie.Need-returns-2
 returns-2 c = λ b l. rw (c .invalid-arg .ensures) (law.refused-is (eventOf [] 0) (world (c .before .before .before .before .before .args .st) b l) (Call.sendData (c .before .before .before .before .before .args .interface) (c .before .before .before .before .before .args .frame .now)) _ [] (law.send-bad (eventOf [] 0) (world (c .before .before .before .before .before .args .st) b l) (c .before .before .before .before .before .args .interface) (c .before .before .before .before .before .args .frame .now) (rw (sym (c .before .before .before .is-interface .ensures) ∙ c .before .before .if1 .taken, lt-leb _ _ (c .before .if2 .left)))))
 
--- src/bytes.rt:72:5
 invalid-arg-requires-2 : tie.Need-invalid-arg-requires-2
 invalid-arg-requires-2 c κs = search needs
 
--- src/bytes.rt:59:1
 returns-3 : tie.Need-returns-3
 returns-3 c = λ b l. rw (c .invalid-arg2 .ensures) (law.refused-is (eventOf [] 0) (world (c .before .before .before .before .args .st) b l) (Call.sendData (c .before .before .before .before .args .interface) (c .before .before .before .before .args .frame .now)) _ [] (law.send-bad (eventOf [] 0) (world (c .before .before .before .before .args .st) b l) (c .before .before .before .before .args .interface) (c .before .before .before .before .args .frame .now) (rw (sym (c .before .before .is-interface .ensures) ∙ c .before .if1 .left))))
 

@@ -1,55 +1,37 @@
--- <<
 use mathlib.Core.Path.{sym, _∙_}
 use mathlib.Core.List.{[]}
 use Rattle.definition.specs.Event.{eventOf}
 use Rattle.definition.specs.Prog.{world}
 use Rattle.definition.specs.Calls.{Call}
 use Rattle.jobs.proofs.Starts as law
--- >>
 use borrow.Author.Needs.{needs}
 use Rattle.jobs.proofs.plain.get_begun.Statement.{statement}
 use Rattle.jobs.proofs.plain.get_begun.Tie as tie
-use Rattle.jobs.proofs.plain.get_begun.Reads as reads
-use Rattle.jobs.proofs.plain.get_begun.Lts as lts
-use Rattle.jobs.proofs.jobs.no_lens.Reads as no-lens-reads
-use Rattle.jobs.proofs.plain.invalid_arg.Reads as invalid-arg-reads
-use Rattle.jobs.proofs.plain.single.Reads as single-reads
-use Rattle.requests.proofs.numbers.is_command.Reads as is-command-reads
-use Rattle.requests.proofs.numbers.is_interface.Reads as is-interface-reads
 
--- src/plain.rt:106:8
 is-command-requires : tie.Need-is-command-requires
 is-command-requires c κs = search needs
 
--- src/plain.rt:107:12
 is-interface-requires : tie.Need-is-interface-requires
 is-interface-requires c κs = search needs
 
--- src/plain.rt:112:44
 no-lens-requires : tie.Need-no-lens-requires
 no-lens-requires c κs = search needs
 
--- src/plain.rt:112:13
 single-requires : tie.Need-single-requires
 single-requires c κs = search needs
 
--- src/plain.rt:112:13
 returns : tie.Need-returns
 returns c = λ b l. rw (c .single .ensures, c .before .no-lens .ensures) (law.get-is (eventOf [] 0) (world (c .before .before .before .before .before .before .args .st) b l) (c .before .before .before .before .before .before .args .cmd) (c .before .before .before .before .before .before .args .interface) (sym (c .before .before .before .before .before .is-command .ensures) ∙ c .before .before .before .before .if1 .taken) (sym (c .before .before .before .is-interface .ensures) ∙ c .before .before .if2 .taken))
 
--- src/plain.rt:114:9
 invalid-arg-requires : tie.Need-invalid-arg-requires
 invalid-arg-requires c κs = search needs
 
--- src/plain.rt:114:9
 returns-2 : tie.Need-returns-2
 returns-2 c = λ b l. rw (c .invalid-arg .ensures) (law.refused-is (eventOf [] 0) (world (c .before .before .before .before .before .args .st) b l) (Call.getIoctl (c .before .before .before .before .before .args .cmd) (c .before .before .before .before .before .args .interface)) [] [] (law.get-bad (eventOf [] 0) (world (c .before .before .before .before .before .args .st) b l) (c .before .before .before .before .before .args .cmd) (c .before .before .before .before .before .args .interface) (rw (sym (c .before .before .before .before .is-command .ensures) ∙ c .before .before .before .if1 .taken, sym (c .before .before .is-interface .ensures) ∙ c .before .if2 .left))))
 
--- src/plain.rt:116:5
 invalid-arg-requires-2 : tie.Need-invalid-arg-requires-2
 invalid-arg-requires-2 c κs = search needs
 
--- src/plain.rt:103:1
 returns-3 : tie.Need-returns-3
 returns-3 c = λ b l. rw (c .invalid-arg2 .ensures) (law.refused-is (eventOf [] 0) (world (c .before .before .before .args .st) b l) (Call.getIoctl (c .before .before .before .args .cmd) (c .before .before .before .args .interface)) [] [] (law.get-bad (eventOf [] 0) (world (c .before .before .before .args .st) b l) (c .before .before .before .args .cmd) (c .before .before .before .args .interface) (rw (sym (c .before .before .is-command .ensures) ∙ c .before .if1 .left))))
 

@@ -1,31 +1,20 @@
--- <<
 use mathlib.Core.List.{[]}
 use Rattle.definition.specs.Event.{eventOf}
 use Rattle.definition.specs.Prog.{world}
 use Rattle.jobs.proofs.Starts as law
--- >>
 use borrow.Author.Needs.{needs}
 use Rattle.jobs.proofs.plain.init_begun.Statement.{statement}
 use Rattle.jobs.proofs.plain.init_begun.Tie as tie
-use Rattle.jobs.proofs.plain.init_begun.Reads as reads
-use Rattle.jobs.proofs.plain.init_begun.Lts as lts
-use Rattle.jobs.proofs.jobs.init_job.Reads as init-job-reads
-use Rattle.jobs.proofs.jobs.no_lens.Reads as no-lens-reads
-use Rattle.jobs.proofs.plain.exchanging.Reads as exchanging-reads
 
--- src/plain.rt:61:16
 init-job-requires : tie.Need-init-job-requires
 init-job-requires c κs = search needs
 
--- src/plain.rt:61:35
 no-lens-requires : tie.Need-no-lens-requires
 no-lens-requires c κs = search needs
 
--- src/plain.rt:61:5
 exchanging-requires : tie.Need-exchanging-requires
 exchanging-requires c κs = search needs
 
--- src/plain.rt:58:1
 returns : tie.Need-returns
 returns c = λ b l. rw (c .exchanging .ensures, c .before .before .init-job .ensures, c .before .no-lens .ensures) (law.init-is (eventOf [] 0) (world (c .before .before .before .args .st) b l) (c .before .before .before .args .country))
 

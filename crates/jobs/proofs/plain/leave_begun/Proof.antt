@@ -1,31 +1,20 @@
--- <<
 use mathlib.Core.List.{[]}
 use Rattle.definition.specs.Event.{eventOf}
 use Rattle.definition.specs.Prog.{world}
 use Rattle.jobs.proofs.Starts as law
--- >>
 use borrow.Author.Needs.{needs}
 use Rattle.jobs.proofs.plain.leave_begun.Statement.{statement}
 use Rattle.jobs.proofs.plain.leave_begun.Tie as tie
-use Rattle.jobs.proofs.plain.leave_begun.Reads as reads
-use Rattle.jobs.proofs.plain.leave_begun.Lts as lts
-use Rattle.jobs.proofs.jobs.no_job.Reads as no-job-reads
-use Rattle.jobs.proofs.jobs.no_lens.Reads as no-lens-reads
-use Rattle.jobs.proofs.plain.exchanging.Reads as exchanging-reads
 
--- src/plain.rt:79:16
 no-job-requires : tie.Need-no-job-requires
 no-job-requires c κs = search needs
 
--- src/plain.rt:79:26
 no-lens-requires : tie.Need-no-lens-requires
 no-lens-requires c κs = search needs
 
--- src/plain.rt:79:5
 exchanging-requires : tie.Need-exchanging-requires
 exchanging-requires c κs = search needs
 
--- src/plain.rt:75:1
 returns : tie.Need-returns
 returns c = (λ b l. rw (c .exchanging .ensures, c .before .before .no-job .ensures, c .before .no-lens .ensures) (law.leave-is (eventOf [] 0) (world (c .before .before .before .args .st) b l)), λ b l. rw (c .exchanging .ensures, c .before .before .no-job .ensures, c .before .no-lens .ensures) (law.abort-is (eventOf [] 0) (world (c .before .before .before .args .st) b l)))
 

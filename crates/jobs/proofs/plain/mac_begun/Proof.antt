@@ -1,26 +1,17 @@
--- <<
 use mathlib.Core.List.{[]}
 use Rattle.definition.specs.Event.{eventOf}
 use Rattle.definition.specs.Prog.{world}
 use Rattle.jobs.proofs.Starts as law
--- >>
 use borrow.Author.Needs.{needs}
 use Rattle.jobs.proofs.plain.mac_begun.Statement.{statement}
 use Rattle.jobs.proofs.plain.mac_begun.Tie as tie
-use Rattle.jobs.proofs.plain.mac_begun.Reads as reads
-use Rattle.jobs.proofs.plain.mac_begun.Lts as lts
-use Rattle.jobs.proofs.jobs.no_lens.Reads as no-lens-reads
-use Rattle.jobs.proofs.plain.single.Reads as single-reads
 
--- src/plain.rt:100:50
 no-lens-requires : tie.Need-no-lens-requires
 no-lens-requires c κs = search needs
 
--- src/plain.rt:100:5
 single-requires : tie.Need-single-requires
 single-requires c κs = search needs
 
--- src/plain.rt:97:1
 returns : tie.Need-returns
 returns c = λ b l. rw (c .single .ensures, c .before .no-lens .ensures) (law.mac-is (eventOf [] 0) (world (c .before .before .args .st) b l))
 

@@ -1,26 +1,17 @@
--- <<
 use mathlib.Core.List.{[]}
 use Rattle.definition.specs.Event.{eventOf}
 use Rattle.definition.specs.Prog.{world}
 use Rattle.jobs.proofs.Starts as law
--- >>
 use borrow.Author.Needs.{needs}
 use Rattle.jobs.proofs.plain.up_begun.Statement.{statement}
 use Rattle.jobs.proofs.plain.up_begun.Tie as tie
-use Rattle.jobs.proofs.plain.up_begun.Reads as reads
-use Rattle.jobs.proofs.plain.up_begun.Lts as lts
-use Rattle.jobs.proofs.jobs.no_lens.Reads as no-lens-reads
-use Rattle.jobs.proofs.plain.single.Reads as single-reads
 
--- src/plain.rt:94:39
 no-lens-requires : tie.Need-no-lens-requires
 no-lens-requires c κs = search needs
 
--- src/plain.rt:94:5
 single-requires : tie.Need-single-requires
 single-requires c κs = search needs
 
--- src/plain.rt:91:1
 returns : tie.Need-returns
 returns c = λ b l. rw (c .single .ensures, c .before .no-lens .ensures) (law.up-is (eventOf [] 0) (world (c .before .before .args .st) b l))
 

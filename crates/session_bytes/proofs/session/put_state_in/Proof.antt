@@ -1,22 +1,14 @@
--- <<
 use Rattle.session_bytes.proofs.Laws.{state-put, state-back, state-known}
--- >>
 use borrow.Author.Needs.{needs}
 use Rattle.session_bytes.proofs.session.put_state_in.Statement.{statement}
 use Rattle.session_bytes.proofs.session.put_state_in.Tie as tie
-use Rattle.session_bytes.proofs.session.put_state_in.Reads as reads
-use Rattle.session_bytes.proofs.session.put_state_in.Lts as lts
-use Rattle.state_bytes.proofs.state.put_state.Reads as put-state-reads
 
--- src/session.rt:51:5
 put-state-requires : tie.Need-put-state-requires
 put-state-requires c κs = search needs
 
--- src/session.rt:46:1
 same-length : tie.Need-same-length
 same-length c = search needs
 
--- src/session.rt:46:1
 returns : tie.Need-returns
 returns c = (state-put (c .before .before .before .before .before .args .out .now) (c .before .before .before .before .before .pre) (c .before .before .before .before .before .args .st) (c .before .before .put-state .ensures .0), (state-known (c .before .before .before .before .before .args .out .now) (c .before .before .before .before .before .pre) (c .before .before .before .before .before .args .st) (c .before .before .put-state .ensures .1), state-back (c .before .before .before .before .before .args .out .now) (c .before .before .before .before .before .pre) (c .before .before .before .before .before .args .st) (c .before .before .put-state .ensures .1)))
 
