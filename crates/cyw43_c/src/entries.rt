@@ -5,9 +5,9 @@ use ending::take::take;
 use entry::enter::enter;
 use entry::enter::enter_plain;
 use entry::hand::hand_state;
+use jobs::PlainCall;
 use jobs::bytes::at_most;
 use jobs::bytes::send_begun;
-use jobs::plain::poll_begun;
 use session_bytes::session::Session;
 use session_bytes::session::is_session;
 use session_bytes::session::put_session;
@@ -50,11 +50,7 @@ pub extern "C" fn cyw43_poll(
 ) -> u32
     ensures { λ r. ⌜ shown r (now (session .exit)) (now (log .exit)) (now (buf .exit)) [] (now (result .exit)) ≡ entered Call.wifiPoll (now (session .entry)) (now (rec .entry)) (now (log .entry)) (now (buf .entry)) [] (now (result .entry)) ⌝ }
 {
-    if is_session(session) {
-        let st = state_in(session);
-        return enter_plain(poll_begun(st), st, session, rec, log, buf, result);
-    }
-    100
+    enter_plain(PlainCall::Poll, session, rec, log, buf, result)
 }
 
 #[no_mangle]

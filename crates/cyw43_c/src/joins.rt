@@ -1,11 +1,9 @@
 // init, scan, join, leave and abort.
 use entry::enter::enter;
 use entry::enter::enter_plain;
+use jobs::PlainCall;
 use jobs::bytes::at_most;
 use jobs::bytes::join_begun;
-use jobs::plain::init_begun;
-use jobs::plain::leave_begun;
-use jobs::plain::scan_begun;
 use session_bytes::session::is_session;
 use session_bytes::session::state_in;
 ghost use mathlib.Core.Path.{_≡_};
@@ -24,11 +22,7 @@ pub extern "C" fn cyw43_init(
 ) -> u32
     ensures { λ r. ⌜ shown r (now (session .exit)) (now (log .exit)) (now (buf .exit)) [] (now (result .exit)) ≡ entered (Call.wifiInit country) (now (session .entry)) (now (rec .entry)) (now (log .entry)) (now (buf .entry)) [] (now (result .entry)) ⌝ }
 {
-    if is_session(session) {
-        let st = state_in(session);
-        return enter_plain(init_begun(country, st), st, session, rec, log, buf, result);
-    }
-    100
+    enter_plain(PlainCall::Init(country), session, rec, log, buf, result)
 }
 
 #[no_mangle]
@@ -41,11 +35,7 @@ pub extern "C" fn cyw43_scan(
 ) -> u32
     ensures { λ r. ⌜ shown r (now (session .exit)) (now (log .exit)) (now (buf .exit)) [] (now (result .exit)) ≡ entered Call.wifiScan (now (session .entry)) (now (rec .entry)) (now (log .entry)) (now (buf .entry)) [] (now (result .entry)) ⌝ }
 {
-    if is_session(session) {
-        let st = state_in(session);
-        return enter_plain(scan_begun(st), st, session, rec, log, buf, result);
-    }
-    100
+    enter_plain(PlainCall::Scan, session, rec, log, buf, result)
 }
 
 #[no_mangle]
@@ -91,11 +81,7 @@ pub extern "C" fn cyw43_leave(
 ) -> u32
     ensures { λ r. ⌜ shown r (now (session .exit)) (now (log .exit)) (now (buf .exit)) [] (now (result .exit)) ≡ entered Call.wifiDisconnect (now (session .entry)) (now (rec .entry)) (now (log .entry)) (now (buf .entry)) [] (now (result .entry)) ⌝ }
 {
-    if is_session(session) {
-        let st = state_in(session);
-        return enter_plain(leave_begun(st), st, session, rec, log, buf, result);
-    }
-    100
+    enter_plain(PlainCall::Disconnect, session, rec, log, buf, result)
 }
 
 #[no_mangle]
@@ -108,9 +94,5 @@ pub extern "C" fn cyw43_abort(
 ) -> u32
     ensures { λ r. ⌜ shown r (now (session .exit)) (now (log .exit)) (now (buf .exit)) [] (now (result .exit)) ≡ entered Call.wifiAbortConnect (now (session .entry)) (now (rec .entry)) (now (log .entry)) (now (buf .entry)) [] (now (result .entry)) ⌝ }
 {
-    if is_session(session) {
-        let st = state_in(session);
-        return enter_plain(leave_begun(st), st, session, rec, log, buf, result);
-    }
-    100
+    enter_plain(PlainCall::AbortConnect, session, rec, log, buf, result)
 }

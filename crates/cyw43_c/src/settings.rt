@@ -1,13 +1,9 @@
 // GPIO, MAC, get, set, variable and up.
 use entry::enter::enter;
 use entry::enter::enter_plain;
+use jobs::PlainCall;
 use jobs::bytes::at_most;
 use jobs::bytes::variable_begun;
-use jobs::plain::get_begun;
-use jobs::plain::gpio_begun;
-use jobs::plain::mac_begun;
-use jobs::plain::set_begun;
-use jobs::plain::up_begun;
 use session_bytes::session::is_session;
 use session_bytes::session::state_in;
 ghost use mathlib.Core.Path.{_≡_};
@@ -27,19 +23,14 @@ pub extern "C" fn cyw43_gpio(
 ) -> u32
     ensures { λ r. ⌜ shown r (now (session .exit)) (now (log .exit)) (now (buf .exit)) [] (now (result .exit)) ≡ entered (Call.gpioSet pin level) (now (session .entry)) (now (rec .entry)) (now (log .entry)) (now (buf .entry)) [] (now (result .entry)) ⌝ }
 {
-    if is_session(session) {
-        let st = state_in(session);
-        return enter_plain(
-            gpio_begun(pin, level, st),
-            st,
-            session,
-            rec,
-            log,
-            buf,
-            result,
-        );
-    }
-    100
+    enter_plain(
+        PlainCall::GpioSet(pin, level),
+        session,
+        rec,
+        log,
+        buf,
+        result,
+    )
 }
 
 #[no_mangle]
@@ -52,11 +43,7 @@ pub extern "C" fn cyw43_mac(
 ) -> u32
     ensures { λ r. ⌜ shown r (now (session .exit)) (now (log .exit)) (now (buf .exit)) [] (now (result .exit)) ≡ entered Call.getMacAddr (now (session .entry)) (now (rec .entry)) (now (log .entry)) (now (buf .entry)) [] (now (result .entry)) ⌝ }
 {
-    if is_session(session) {
-        let st = state_in(session);
-        return enter_plain(mac_begun(st), st, session, rec, log, buf, result);
-    }
-    100
+    enter_plain(PlainCall::GetMacAddr, session, rec, log, buf, result)
 }
 
 #[no_mangle]
@@ -71,19 +58,14 @@ pub extern "C" fn cyw43_get(
 ) -> u32
     ensures { λ r. ⌜ shown r (now (session .exit)) (now (log .exit)) (now (buf .exit)) [] (now (result .exit)) ≡ entered (Call.getIoctl cmd interface) (now (session .entry)) (now (rec .entry)) (now (log .entry)) (now (buf .entry)) [] (now (result .entry)) ⌝ }
 {
-    if is_session(session) {
-        let st = state_in(session);
-        return enter_plain(
-            get_begun(cmd, interface, st),
-            st,
-            session,
-            rec,
-            log,
-            buf,
-            result,
-        );
-    }
-    100
+    enter_plain(
+        PlainCall::GetIoctl(cmd, interface),
+        session,
+        rec,
+        log,
+        buf,
+        result,
+    )
 }
 
 #[no_mangle]
@@ -99,19 +81,14 @@ pub extern "C" fn cyw43_set(
 ) -> u32
     ensures { λ r. ⌜ shown r (now (session .exit)) (now (log .exit)) (now (buf .exit)) [] (now (result .exit)) ≡ entered (Call.setIoctl cmd value interface) (now (session .entry)) (now (rec .entry)) (now (log .entry)) (now (buf .entry)) [] (now (result .entry)) ⌝ }
 {
-    if is_session(session) {
-        let st = state_in(session);
-        return enter_plain(
-            set_begun(cmd, value, interface, st),
-            st,
-            session,
-            rec,
-            log,
-            buf,
-            result,
-        );
-    }
-    100
+    enter_plain(
+        PlainCall::SetIoctl(cmd, value, interface),
+        session,
+        rec,
+        log,
+        buf,
+        result,
+    )
 }
 
 #[no_mangle]
@@ -157,9 +134,5 @@ pub extern "C" fn cyw43_up(
 ) -> u32
     ensures { λ r. ⌜ shown r (now (session .exit)) (now (log .exit)) (now (buf .exit)) [] (now (result .exit)) ≡ entered Call.up (now (session .entry)) (now (rec .entry)) (now (log .entry)) (now (buf .entry)) [] (now (result .entry)) ⌝ }
 {
-    if is_session(session) {
-        let st = state_in(session);
-        return enter_plain(up_begun(st), st, session, rec, log, buf, result);
-    }
-    100
+    enter_plain(PlainCall::Up, session, rec, log, buf, result)
 }

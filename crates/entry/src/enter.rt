@@ -7,8 +7,12 @@ use call::heard_from;
 use control::Job;
 use ending::wind::wind;
 use jobs::Begun;
+use jobs::PlainCall;
+use jobs::plain::begin;
 use run::run::touched;
+use session_bytes::session::is_session;
 use session_bytes::session::list_of;
+use session_bytes::session::state_in;
 use turn::Running;
 use turn::StateEnd;
 use wlan::Outcome;
@@ -23,7 +27,7 @@ ghost use Rattle.definition.specs.Prog.{world};
 ghost use Rattle.definition.specs.Calls.{Call};
 ghost use Rattle.control.specs.Meaning.{Args};
 ghost use Rattle.effects.specs.Args.{argsOf};
-ghost use Rattle.jobs.specs.Jobs.{Begins};
+ghost use Rattle.jobs.specs.Jobs.{Begins, callOf};
 ghost use Rattle.session_bytes.specs.Session.{sessionIn, isSession};
 ghost use Rattle.turn.specs.Onward.{onward, onwardBy, isOn};
 ghost use Rattle.entry.specs.Entry.{shown, handed, entered};
@@ -130,20 +134,31 @@ pub fn enter(
     finish(r, st, &saved, session, buf, result)
 }
 
-// The same without byte arguments.
+// A call without byte arguments.
 pub fn enter_plain(
-    b: Begun,
-    st: State,
+    c: PlainCall,
     session: &mut [u8],
     rec: &[u32],
     log: &mut [u32],
     buf: &mut [u8],
     result: &mut [u64],
 ) -> u32
-    requires { ⌜ isSession (now session) ≡ true ⌝ }
-    requires { ⌜ st ≡ sessionIn (now session) .st ⌝ }
-    ensures { λ r. ⌜ ((c : Call) → Begins c [] [] st b → shown r (now (session .exit)) (now (log .exit)) (now (buf .exit)) [] (now (result .exit)) ≡ entered c (now (session .entry)) (now (rec .entry)) (now (log .entry)) (now (buf .entry)) [] (now (result .entry))) ⌝ }
+    ensures { λ r. ⌜ shown r (now (session .exit)) (now (log .exit)) (now (buf .exit)) [] (now (result .exit)) ≡ entered (callOf c) (now (session .entry)) (now (rec .entry)) (now (log .entry)) (now (buf .entry)) [] (now (result .entry)) ⌝ }
 {
-    let none = [0u8; 0];
-    enter(b, &none, &none, st, session, rec, log, buf, result)
+    if is_session(session) {
+        let st = state_in(session);
+        let none = [0u8; 0];
+        return enter(
+            begin(c, st),
+            &none,
+            &none,
+            st,
+            session,
+            rec,
+            log,
+            buf,
+            result,
+        );
+    }
+    100
 }

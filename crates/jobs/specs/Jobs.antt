@@ -26,6 +26,7 @@ use Rattle.control.specs.Begin.{exchangesStep}
 use Rattle.control.specs.Meaning.{Args, callShown}
 use Rattle.effects.specs.Args.{argsOf}
 use Rattle.jobs.specs.declared.Begun.{Begun}
+use Rattle.jobs.specs.declared.PlainCall.{PlainCall}
 
 abbrev jobOf : ℕ → WifiAuth → Bool → Bool → ℕ → Request → Ending → Job
 jobOf c a p s n r e =
@@ -74,3 +75,16 @@ cut max n = pick (leb n max) n 0
 abbrev pub Begins : Call → Bytes → Bytes → State → Begun → Type 0
 Begins c first second s b =
     (buf : Bytes) (l : ScanList) → unroll (call c (world s buf l)) ≡ callShown (argsOf (b .job) first second) (b .step) (eventOf [] 0) (world s buf l)
+
+-- the definition's call
+unfoldable pub callOf : PlainCall → Call
+callOf (PlainCall.Init country) = Call.wifiInit country
+callOf PlainCall.Scan = Call.wifiScan
+callOf PlainCall.Disconnect = Call.wifiDisconnect
+callOf PlainCall.AbortConnect = Call.wifiAbortConnect
+callOf PlainCall.Poll = Call.wifiPoll
+callOf (PlainCall.GpioSet pin level) = Call.gpioSet pin level
+callOf PlainCall.GetMacAddr = Call.getMacAddr
+callOf (PlainCall.GetIoctl cmd interface) = Call.getIoctl cmd interface
+callOf (PlainCall.SetIoctl cmd value interface) = Call.setIoctl cmd value interface
+callOf PlainCall.Up = Call.up

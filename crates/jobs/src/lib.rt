@@ -10,3 +10,20 @@ pub struct Begun {
     pub job: Job,
     pub step: CallStep,
 }
+
+// A call without byte arguments, with its numbers.
+pub enum PlainCall {
+    Init(u32),
+    Scan,
+    Disconnect,
+    AbortConnect,
+    Poll,
+    // Pin, level.
+    GpioSet(u32, u32),
+    GetMacAddr,
+    // Command, interface.
+    GetIoctl(u32, u32),
+    // Command, value, interface.
+    SetIoctl(u32, u32, u32),
+    Up,
+}

@@ -1,5 +1,6 @@
 // The beginnings of the calls without byte arguments.
 use crate::Begun;
+use crate::PlainCall;
 use crate::jobs::init_job;
 use crate::jobs::no_job;
 use crate::jobs::no_lens;
@@ -160,4 +161,21 @@ pub fn gpio_begun(pin: u32, level: u32, st: State) -> Begun
         return single(r, Ending::Done, no_lens(), st);
     }
     invalid_arg(st)
+}
+
+pub fn begin(c: PlainCall, st: State) -> Begun
+    ensures { λ b. ⌜ to.Begins (to.callOf c) [] [] st b ⌝ }
+{
+    match c {
+        PlainCall::Init(country) => init_begun(country, st),
+        PlainCall::Scan => scan_begun(st),
+        PlainCall::Disconnect => leave_begun(st),
+        PlainCall::AbortConnect => leave_begun(st),
+        PlainCall::Poll => poll_begun(st),
+        PlainCall::GpioSet(pin, level) => gpio_begun(pin, level, st),
+        PlainCall::GetMacAddr => mac_begun(st),
+        PlainCall::GetIoctl(cmd, interface) => get_begun(cmd, interface, st),
+        PlainCall::SetIoctl(cmd, value, interface) => set_begun(cmd, value, interface, st),
+        PlainCall::Up => up_begun(st),
+    }
 }
