@@ -6,6 +6,8 @@ use ending::wind::list_end;
 use ending::wind::wind;
 use ending::wind::with_list;
 use jobs::Begun;
+use jobs::PlainCall;
+use jobs::plain::begin;
 use run::heard::run_heard;
 use run::run::run_on;
 use run::run::touched;
@@ -27,7 +29,7 @@ ghost use Rattle.definition.specs.Calls.{Call};
 ghost use Rattle.definition.specs.Run.{called};
 ghost use Rattle.control.specs.Meaning.{callShown};
 ghost use Rattle.effects.specs.Args.{argsOf};
-ghost use Rattle.jobs.specs.Jobs.{Begins};
+ghost use Rattle.jobs.specs.Jobs.{Begins, callOf};
 ghost use Rattle.turn.specs.Onward as to;
 
 // From the call's first step to its end, or to its first step that does something to the scan list.
@@ -107,17 +109,17 @@ pub fn whole(
     with_list(wind(at, next, st, &saved, buf), list)
 }
 
-// The same without byte arguments.
+// A call without byte arguments.
 pub fn plain(
-    b: Begun,
+    c: PlainCall,
     st: State,
     list: ScanList,
     rec: &[u32],
     log: &mut [u32],
     buf: &mut [u8],
 ) -> CallEnd
-    ensures { λ r. ⌜ ((c : Call) → Begins c [] [] st b → to.endOf r (now (log .exit)) (now (buf .exit)) [] ≡ called c (world st (now (buf .entry)) list) (now (rec .entry)) (now (log .entry)) []) ⌝ }
+    ensures { λ r. ⌜ to.endOf r (now (log .exit)) (now (buf .exit)) [] ≡ called (callOf c) (world st (now (buf .entry)) list) (now (rec .entry)) (now (log .entry)) [] ⌝ }
 {
     let none = [0u8; 0];
-    whole(b, &none, &none, st, list, rec, log, buf)
+    whole(begin(c, st), &none, &none, st, list, rec, log, buf)
 }

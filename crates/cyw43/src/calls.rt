@@ -1,12 +1,9 @@
 // init, scan, join, leave, abort, poll.
 use call::plain;
 use call::whole;
+use jobs::PlainCall;
 use jobs::bytes::at_most;
 use jobs::bytes::join_begun;
-use jobs::plain::init_begun;
-use jobs::plain::leave_begun;
-use jobs::plain::poll_begun;
-use jobs::plain::scan_begun;
 use turn::CallEnd;
 use wlan::ScanList;
 use wlan::State;
@@ -27,13 +24,13 @@ pub fn wifi_init(
 ) -> CallEnd
     ensures { λ r. ⌜ endOf r (now (log .exit)) (now (buf .exit)) [] ≡ called (Call.wifiInit country) (world st (now (buf .entry)) list) (now (rec .entry)) (now (log .entry)) [] ⌝ }
 {
-    plain(init_begun(country, st), st, list, rec, log, buf)
+    plain(PlainCall::Init(country), st, list, rec, log, buf)
 }
 
 pub fn wifi_scan(st: State, list: ScanList, rec: &[u32], log: &mut [u32], buf: &mut [u8]) -> CallEnd
     ensures { λ r. ⌜ endOf r (now (log .exit)) (now (buf .exit)) [] ≡ called Call.wifiScan (world st (now (buf .entry)) list) (now (rec .entry)) (now (log .entry)) [] ⌝ }
 {
-    plain(scan_begun(st), st, list, rec, log, buf)
+    plain(PlainCall::Scan, st, list, rec, log, buf)
 }
 
 pub fn wifi_connect(
@@ -63,7 +60,7 @@ pub fn wifi_disconnect(
 ) -> CallEnd
     ensures { λ r. ⌜ endOf r (now (log .exit)) (now (buf .exit)) [] ≡ called Call.wifiDisconnect (world st (now (buf .entry)) list) (now (rec .entry)) (now (log .entry)) [] ⌝ }
 {
-    plain(leave_begun(st), st, list, rec, log, buf)
+    plain(PlainCall::Disconnect, st, list, rec, log, buf)
 }
 
 pub fn wifi_abort_connect(
@@ -75,11 +72,11 @@ pub fn wifi_abort_connect(
 ) -> CallEnd
     ensures { λ r. ⌜ endOf r (now (log .exit)) (now (buf .exit)) [] ≡ called Call.wifiAbortConnect (world st (now (buf .entry)) list) (now (rec .entry)) (now (log .entry)) [] ⌝ }
 {
-    plain(leave_begun(st), st, list, rec, log, buf)
+    plain(PlainCall::AbortConnect, st, list, rec, log, buf)
 }
 
 pub fn wifi_poll(st: State, list: ScanList, rec: &[u32], log: &mut [u32], buf: &mut [u8]) -> CallEnd
     ensures { λ r. ⌜ endOf r (now (log .exit)) (now (buf .exit)) [] ≡ called Call.wifiPoll (world st (now (buf .entry)) list) (now (rec .entry)) (now (log .entry)) [] ⌝ }
 {
-    plain(poll_begun(st), st, list, rec, log, buf)
+    plain(PlainCall::Poll, st, list, rec, log, buf)
 }

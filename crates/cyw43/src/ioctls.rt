@@ -1,13 +1,9 @@
 // GPIO, MAC, get, set, variable, up: calls that are one exchange.
 use call::plain;
 use call::whole;
+use jobs::PlainCall;
 use jobs::bytes::at_most;
 use jobs::bytes::variable_begun;
-use jobs::plain::get_begun;
-use jobs::plain::gpio_begun;
-use jobs::plain::mac_begun;
-use jobs::plain::set_begun;
-use jobs::plain::up_begun;
 use turn::CallEnd;
 use wlan::ScanList;
 use wlan::State;
@@ -29,7 +25,7 @@ pub fn gpio_set(
 ) -> CallEnd
     ensures { λ r. ⌜ endOf r (now (log .exit)) (now (buf .exit)) [] ≡ called (Call.gpioSet pin level) (world st (now (buf .entry)) list) (now (rec .entry)) (now (log .entry)) [] ⌝ }
 {
-    plain(gpio_begun(pin, level, st), st, list, rec, log, buf)
+    plain(PlainCall::GpioSet(pin, level), st, list, rec, log, buf)
 }
 
 pub fn get_mac_addr(
@@ -41,7 +37,7 @@ pub fn get_mac_addr(
 ) -> CallEnd
     ensures { λ r. ⌜ endOf r (now (log .exit)) (now (buf .exit)) [] ≡ called Call.getMacAddr (world st (now (buf .entry)) list) (now (rec .entry)) (now (log .entry)) [] ⌝ }
 {
-    plain(mac_begun(st), st, list, rec, log, buf)
+    plain(PlainCall::GetMacAddr, st, list, rec, log, buf)
 }
 
 pub fn get_ioctl(
@@ -55,7 +51,7 @@ pub fn get_ioctl(
 ) -> CallEnd
     ensures { λ r. ⌜ endOf r (now (log .exit)) (now (buf .exit)) [] ≡ called (Call.getIoctl cmd interface) (world st (now (buf .entry)) list) (now (rec .entry)) (now (log .entry)) [] ⌝ }
 {
-    plain(get_begun(cmd, interface, st), st, list, rec, log, buf)
+    plain(PlainCall::GetIoctl(cmd, interface), st, list, rec, log, buf)
 }
 
 pub fn set_ioctl(
@@ -71,7 +67,7 @@ pub fn set_ioctl(
     ensures { λ r. ⌜ endOf r (now (log .exit)) (now (buf .exit)) [] ≡ called (Call.setIoctl cmd value interface) (world st (now (buf .entry)) list) (now (rec .entry)) (now (log .entry)) [] ⌝ }
 {
     plain(
-        set_begun(cmd, value, interface, st),
+        PlainCall::SetIoctl(cmd, value, interface),
         st,
         list,
         rec,
@@ -101,5 +97,5 @@ pub fn write_iovar(
 pub fn up(st: State, list: ScanList, rec: &[u32], log: &mut [u32], buf: &mut [u8]) -> CallEnd
     ensures { λ r. ⌜ endOf r (now (log .exit)) (now (buf .exit)) [] ≡ called Call.up (world st (now (buf .entry)) list) (now (rec .entry)) (now (log .entry)) [] ⌝ }
 {
-    plain(up_begun(st), st, list, rec, log, buf)
+    plain(PlainCall::Up, st, list, rec, log, buf)
 }

@@ -20,7 +20,7 @@ ghost use lib.ListN.{length, take};
 ghost use Rattle.definition.specs.Calls.{Call};
 ghost use Rattle.jobs.specs.Jobs as to;
 
-// n where it is at most max, else 0: join refuses a longer argument without using it.
+// n where it is at most max, else 0: a longer argument is refused without being used.
 pub fn at_most(max: usize, n: usize) -> usize
     ensures cut { λ r. ⌜ r ≡ to.cut max n ⌝ }
     ensures most { λ r. ⌜ (n ≤ max → r ≡ n) × (r ≤ max) × (r ≤ n) ⌝ }

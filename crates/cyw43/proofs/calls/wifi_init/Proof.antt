@@ -1,10 +1,7 @@
-use Rattle.definition.specs.Calls.{Call}
+use Rattle.jobs.specs.Jobs.{callOf}
 use borrow.Author.Needs.{needs}
 use Rattle.cyw43.proofs.calls.wifi_init.Statement.{statement}
 use Rattle.cyw43.proofs.calls.wifi_init.Tie as tie
-
-init-begun-requires : tie.Need-init-begun-requires
-init-begun-requires c κs = search needs
 
 plain-requires : tie.Need-plain-requires
 plain-requires c κs = search needs
@@ -16,8 +13,8 @@ same-length-2 : tie.Need-same-length-2
 same-length-2 c = search needs
 
 returns : tie.Need-returns
-returns c = c .before .before .before .before .plain .ensures (Call.wifiInit (c .before .before .before .before .before .before .before .before .before .before .before .args .country)) (c .before .before .before .before .before .before .before .init-begun .ensures)
+unfolding callOf
+returns c = c .before .before .before .before .plain .ensures
 
 pub wifi-init-spec : {M : Type 1} → statement M
-wifi-init-spec =
-    tie.close (tie.spec init-begun-requires plain-requires same-length same-length-2 returns)
+wifi-init-spec = tie.close (tie.spec plain-requires same-length same-length-2 returns)

@@ -1,10 +1,7 @@
-use Rattle.definition.specs.Calls.{Call}
+use Rattle.jobs.specs.Jobs.{callOf}
 use borrow.Author.Needs.{needs}
 use Rattle.cyw43.proofs.ioctls.get_mac_addr.Statement.{statement}
 use Rattle.cyw43.proofs.ioctls.get_mac_addr.Tie as tie
-
-mac-begun-requires : tie.Need-mac-begun-requires
-mac-begun-requires c κs = search needs
 
 plain-requires : tie.Need-plain-requires
 plain-requires c κs = search needs
@@ -16,8 +13,8 @@ same-length-2 : tie.Need-same-length-2
 same-length-2 c = search needs
 
 returns : tie.Need-returns
-returns c = c .before .before .before .before .plain .ensures (Call.getMacAddr) (c .before .before .before .before .before .before .before .mac-begun .ensures)
+unfolding callOf
+returns c = c .before .before .before .before .plain .ensures
 
 pub get-mac-addr-spec : {M : Type 1} → statement M
-get-mac-addr-spec =
-    tie.close (tie.spec mac-begun-requires plain-requires same-length same-length-2 returns)
+get-mac-addr-spec = tie.close (tie.spec plain-requires same-length same-length-2 returns)
