@@ -47,18 +47,19 @@ pub fn wind(at: Standing, next: RunNext, st: State, saved: &[u8], buf: &mut [u8]
     requires { ⌜ to.isOn next ≡ false ⌝ }
     ensures { λ x. ⌜ ((a : Args) (rec log : List ℕ) (latest l : list.ScanList) → to.endOf (to.withList x (to.listEnd next latest l)) log (now (buf .exit)) [] ≡ to.onwardBy (world st (now (saved .entry)) l) a rec at latest log (now (buf .entry)) next) ⌝ }
 {
+    let len = at.len;
     match next {
         RunNext::At(_) => StateEnd {
             outcome: Outcome::Refused(Refusal::Unrecorded),
             st: st,
-            len: at.len,
+            len: len,
         },
         RunNext::Over(o) => {
             let st_now = at.st;
             StateEnd {
                 outcome: o,
                 st: st_now,
-                len: at.len,
+                len: len,
             }
         }
         RunNext::Back(c) => {
@@ -66,7 +67,7 @@ pub fn wind(at: Standing, next: RunNext, st: State, saved: &[u8], buf: &mut [u8]
             StateEnd {
                 outcome: Outcome::Refused(c),
                 st: st,
-                len: at.len,
+                len: len,
             }
         }
     }

@@ -1,6 +1,6 @@
 -- Any bytes hold a scan list, and are the bytes of the list that they hold. So only the state's bytes can be no session's.
 use mathlib.Core.Path.{_≡_, refl, sym, ap, _∙_}
-use mathlib.Core.Bool.{Bool, true, false, _&&_}
+use mathlib.Core.Bool.{Bool, true, false, _&&_, and-true, and-assoc}
 use mathlib.Core.List.{List, [], _∷_, _++_}
 use Prim.Native.Nat.{ℕ, zero, suc, _+_, _*_, _-_, _/_, _%_, _<_, _≤_}
 use native.Mathlib.Omega.{arith}
@@ -9,9 +9,9 @@ use lib.IntN.{pos, negsuc}
 use lib.ListN.{length, take, drop, getD, length-drop, take-append-drop}
 use lib.Seq.{take-all, take-add, drop-drop, drop-cons, getD-drop, length-take-le}
 use Rattle.slices.specs.Pick.{pick}
-use Rattle.slices.specs.Le.{le16, le16At, le32At, signed16}
+use Rattle.slices.specs.Le.{le16, le32, le16At, le32At, signed16, signed32}
 use Rattle.definition.specs.Scan.{sameBytes}
-use Rattle.state_bytes.specs.Numbers.{unsigned16}
+use Rattle.state_bytes.specs.Numbers.{unsigned16, unsigned32}
 use Rattle.state_bytes.specs.StateBytes.{le64, stateBytes, stateIn}
 use Rattle.state_bytes.proofs.Laws.{length-state}
 use Rattle.session_bytes.specs.ListBytes.{tailBytes, recordBytes, recordsBytes, listBytes, recordOf, recordsFrom, listIn}
@@ -29,7 +29,7 @@ rest-bytes n p k i = rw (getD-drop n p i 0) (k (n + i))
 low-digit : (a q : ℕ) → a < 256 → (a + 256 * q) % 256 ≡ a
 low-digit a q h = omega arith
 
-two-digits : (a b : ℕ) → a < 256 → b < 256 → le16 (a + 256 * b) ≡ a ∷ b ∷ []
+pub two-digits : (a b : ℕ) → a < 256 → b < 256 → le16 (a + 256 * b) ≡ a ∷ b ∷ []
 two-digits a b h k =
     let e : (a + 256 * b) / 256 ≡ b = omega arith in
     let f : b % 256 ≡ b = omega arith in
@@ -43,6 +43,15 @@ unsigned-pick false n h = omega arith
 unsigned-signed : (n : ℕ) → n < 65536 → unsigned16 (signed16 n) ≡ n
 unfolding signed16
 unsigned-signed n h = unsigned-pick (ltb n 32768) n h
+
+unsigned-pick32 : (t : Bool) (n : ℕ) → n < 4294967296 → unsigned32 (pick t (pos n) (negsuc (4294967295 - n))) ≡ n
+unfolding unsigned32
+unsigned-pick32 true n h = refl
+unsigned-pick32 false n h = omega arith
+
+pub unsigned-signed32 : (n : ℕ) → n < 4294967296 → unsigned32 (signed32 n) ≡ n
+unfolding signed32
+unsigned-signed32 n h = unsigned-pick32 (ltb n 2147483648) n h
 
 digit1 : (n lo a q : ℕ) → n ≡ lo + 256 * (a + 256 * q) → lo < 256 → a < 256 → n / 256 % 256 ≡ a
 digit1 n lo a q e h k =
@@ -58,6 +67,17 @@ digit3 : (n lo a q : ℕ) → n ≡ lo + 16777216 * (a + 256 * q) → lo < 16777
 digit3 n lo a q e h k =
     let f : n / 16777216 ≡ a + 256 * q = omega arith in
     rw f (low-digit a q k)
+
+pub four-digits : (a b c d : ℕ) → a < 256 → b < 256 → c < 256 → d < 256 → le32 (a + 256 * b + 65536 * c + 16777216 * d) ≡ a ∷ b ∷ c ∷ d ∷ []
+four-digits a b c d a< b< c< d< =
+    let n = a + 256 * b + 65536 * c + 16777216 * d in
+    let e₀ : n % 256 ≡ a = omega arith in
+    rw (
+      e₀,
+      digit1 n a b (c + 256 * d) (omega arith) a< b<,
+      digit2 n (a + 256 * b) c d (omega arith) (omega arith) c<,
+      digit3 n (a + 256 * b + 65536 * c) d 0 (omega arith) (omega arith) d<,
+    )
 
 digit4 : (n lo a q : ℕ) → n ≡ lo + 4294967296 * (a + 256 * q) → lo < 4294967296 → a < 256 → n / 4294967296 % 256 ≡ a
 digit4 n lo a q e h k =
@@ -79,7 +99,7 @@ digit7 n lo a q e h k =
     let f : n / 72057594037927936 ≡ a + 256 * q = omega arith in
     rw f (low-digit a q k)
 
-eight-digits : (a b c d e f g h : ℕ) → a < 256 → b < 256 → c < 256 → d < 256 → e < 256 → f < 256 → g < 256 → h < 256
+pub eight-digits : (a b c d e f g h : ℕ) → a < 256 → b < 256 → c < 256 → d < 256 → e < 256 → f < 256 → g < 256 → h < 256
     → le64 (a + 256 * b + 65536 * c + 16777216 * d + 4294967296 * (e + 256 * f + 65536 * g + 16777216 * h)) ≡ a ∷ b ∷ c ∷ d ∷ e ∷ f ∷ g ∷ h ∷ []
 eight-digits a b c d e f g h a< b< c< d< e< f< g< h< =
     let n = a + 256 * b + 65536 * c + 16777216 * d + 4294967296 * (e + 256 * f + 65536 * g + 16777216 * h) in
@@ -154,12 +174,16 @@ list-form p h k =
 
 -- ---- the session
 
-same-append : (x y z : List ℕ) → length x ≡ length y → sameBytes (x ++ z) (y ++ z) ≡ sameBytes x y
+-- parts of equal length are compared one by one
+pub same-parts : (x y z w : List ℕ) → length x ≡ length y → sameBytes (x ++ z) (y ++ w) ≡ (sameBytes x y && sameBytes z w)
 unfolding sameBytes
-same-append [] [] z h = same-refl z
-same-append [] (b ∷ y) z h = absurd (omega arith)
-same-append (a ∷ x) [] z h = absurd (omega arith)
-same-append (a ∷ x) (b ∷ y) z h = ap (λ (t : Bool). eqb a b && t) (same-append x y z (omega arith))
+same-parts [] [] z w h = refl
+same-parts [] (b ∷ y) z w h = absurd (omega arith)
+same-parts (a ∷ x) [] z w h = absurd (omega arith)
+same-parts (a ∷ x) (b ∷ y) z w h = rw (same-parts x y z w (omega arith), and-assoc (eqb a b) (sameBytes x y) (sameBytes z w))
+
+pub same-append : (x y z : List ℕ) → length x ≡ length y → sameBytes (x ++ z) (y ++ z) ≡ sameBytes x y
+same-append x y z h = rw (same-parts x y z z h, same-refl z, and-true (sameBytes x y))
 
 pub session-same : (b : List ℕ) → length b ≡ 1393 → Bytes b → sameBytes (stateBytes (stateIn b)) (take 41 b) ≡ sameBytes (sessionBytes (sessionIn b)) b
 unfolding sessionBytes sessionIn

@@ -1,6 +1,9 @@
 // A session's bytes. Those that are no session's are told apart.
 use crate::list::list_in;
 use crate::list::put_list;
+use crate::parts::front_form;
+use crate::parts::link_form;
+use crate::parts::pending_form;
 use state_bytes::state::put_state;
 use state_bytes::state::state_at;
 use wlan::ScanList;
@@ -8,7 +11,6 @@ use wlan::State;
 ghost use mathlib.Core.Path.{_≡_};
 ghost use mathlib.Core.Bool.{true};
 ghost use lib.ListN.{length};
-ghost use Rattle.definition.specs.Scan.{sameBytes};
 ghost use Rattle.session_bytes.specs.Session as to;
 
 pub struct Session {
@@ -51,35 +53,18 @@ pub fn put_state_in(st: State, out: &mut [u8])
     put_state(st, out);
 }
 
-fn same_bytes(a: &[u8], b: &[u8]) -> bool
-    requires { ⌜ length (now a) ≡ length (now b) ⌝ }
-    ensures { λ r. ⌜ r ≡ sameBytes (now (a .entry)) (now (b .entry)) ⌝ }
-{
-    let mut i = 0;
-    while i < a.len() {
-        if a[i] != b[i] {
-            return false;
-        }
-        i += 1;
-    }
-    true
-}
-
-// Any bytes hold a scan list: only the state's are compared.
-fn same_as_read(bytes: &[u8]) -> bool
-    requires { ⌜ length (now bytes) ≡ 1393 ⌝ }
-    ensures { λ r. ⌜ r ≡ sameBytes (to.sessionBytes (to.sessionIn (now (bytes .entry)))) (now (bytes .entry)) ⌝ }
-{
-    let mut b = [0u8; 41];
-    put_state(state_at(bytes), &mut b);
-    same_bytes(&b, &bytes[..41])
-}
-
+// Any bytes hold a scan list: only the state's are tested.
 pub fn is_session(bytes: &[u8]) -> bool
     ensures { λ r. ⌜ r ≡ to.isSession (now (bytes .entry)) ⌝ }
 {
     if bytes.len() != 1393 {
         return false;
     }
-    same_as_read(bytes)
+    if !front_form(&bytes[..7]) {
+        return false;
+    }
+    if !pending_form(&bytes[7..21]) {
+        return false;
+    }
+    link_form(&bytes[21..41])
 }

@@ -29,7 +29,7 @@ single-requires : tie.Need-single-requires
 single-requires c κs = search needs
 
 returns : tie.Need-returns
-returns c = λ b l. rw (law.cut-whole 2020 (c .before .before .before .before .before .before .before .args .name .now) (omega (arith, c .before .before .if2 .taken)), law.cut-whole 2020 (c .before .before .before .before .before .before .before .args .bytes .now) (omega (arith, c .before .before .if2 .taken)), c .single .ensures, c .before .lens .ensures (to.requestJob (Request.Variable (c .before .before .before .before .before .before .before .args .interface)) Ending.Done)) (law.variable-is (eventOf [] 0) (world (c .before .before .before .before .before .before .before .args .st) b l) (c .before .before .before .before .before .before .before .args .interface) (c .before .before .before .before .before .before .before .args .name .now) (c .before .before .before .before .before .before .before .args .bytes .now) (sym (c .before .before .before .before .is-interface .ensures) ∙ c .before .before .before .if1 .taken) (c .before .before .if2 .taken))
+returns c = λ b l. rw (law.cut-whole 2020 (c .before .before .before .before .before .before .before .args .name .now) (omega (arith, c .before .before .if2 .taken)), law.cut-whole 2020 (c .before .before .before .before .before .before .before .args .bytes .now) (omega (arith, c .before .before .if2 .taken)), c .single .ensures, c .before .lens .ensures (to.requestJob (Request.Variable (c .before .before .before .before .before .before .before .args .interface)) Ending.Done)) (law.variable-is (eventOf [] 0) (world (c .before .before .before .before .before .before .before .args .st) b l) (c .before .before .before .before .before .before .before .args .interface) (c .before .before .before .before .before .before .before .args .name .now) (c .before .before .before .before .before .before .before .args .bytes .now) (sym (c .before .before .before .before .is-interface .ensures) ∙ c .before .before .before .if1 .taken) (omega (arith, c .before .before .if2 .taken)))
 
 invalid-arg-requires : tie.Need-invalid-arg-requires
 invalid-arg-requires c κs = search needs
