@@ -4,6 +4,9 @@
  * good for its count; nothing else is asked: any bytes, any lengths, any numbers.
  *
  * session   CYW43_SESSION_BYTES bytes that hold the state and the scan list between calls; cyw43_fresh makes them.
+ * undo      CYW43_UNDO_BYTES bytes in which a call keeps what it may have to put back. No call needs what another left there: any
+ *           content will do, and sessions may share them. What they have after a call is not said below; it may be bytes of session
+ *           and buf, a passphrase too.
  * rec       the recording: the words of the bus's answers so far, from the call's beginning on.
  * log       the bus operations that the call has asked for, as words, are put here.
  * buf       the work buffer, CYW43_BUFFER_BYTES bytes, the same for all calls of a session.
@@ -12,14 +15,15 @@
  * Every entry but cyw43_fresh gives back the number of the refusal, 0 for success:
  *   1 bad argument   2 time-out   3 chip error   4 busy   5 nothing waits   6 output too short   7 bus fault, the value its place
  *   8 the next answer is not wholly recorded   9 the next answer is not one to the operation   10 event header above its size
- *   11 a copied part ends past the work buffer   12 the operation does not fit the log   13 another work buffer length
+ *   11 a copied part ends past the work buffer   12 the operation does not fit the log   13 another length of undo or of the work buffer
  *   100 the session's bytes are no session's: another length, a number out of its range, or a part that is not there and not 0.
  *
- * After 8, 9, 12 and 13 session and buf are as before the call, and log has the operations so far: after 8 its last one is to be
+ * 100 comes before 13, and 13 before all others. After 100 everything is as before the call, result and log too. After 13 everything
+ * but result is, and both its numbers are 0.
+ * After 8, 9 and 12 session and buf are as before the call, and log has the operations so far: after 8 its last one is to be
  * done on the bus, its answer put at the end of rec, and the same call made again with the longer recording.
- * After 100 everything is as before the call, result and log too. After any other number the session's bytes are a session's
- * again, and hold the state and list that the driver's definition says.
- * Words of log past result[1] are untouched. Equal arguments give equal results: nothing is kept outside the slices.
+ * After any other number the session's bytes are a session's again, and hold the state and list that the driver's definition says.
+ * Words of log past result[1] are untouched. Equal arguments give equal results, whatever undo has: nothing is kept outside the slices.
  */
 #ifndef CYW43_H
 #define CYW43_H
@@ -28,6 +32,7 @@
 #include <stdint.h>
 
 #define CYW43_SESSION_BYTES 1393
+#define CYW43_UNDO_BYTES 3444
 #define CYW43_BUFFER_BYTES 2048
 #define CYW43_NO_SESSION 100
 
@@ -49,8 +54,8 @@ enum {
 uint32_t cyw43_fresh(uint8_t *session, size_t session_len);
 
 #define CYW43_LENT                                                                                                             \
-    uint8_t *session, size_t session_len, const uint32_t *rec, size_t rec_len, uint32_t *log, size_t log_len, uint8_t *buf,    \
-        size_t buf_len, uint64_t *result, size_t result_len
+    uint8_t *session, size_t session_len, uint8_t *undo, size_t undo_len, const uint32_t *rec, size_t rec_len, uint32_t *log,  \
+        size_t log_len, uint8_t *buf, size_t buf_len, uint64_t *result, size_t result_len
 
 /* Brings the interface up. country: two letters in the low 16 bits, the first one lowest; above them the revision, 0 for the default. */
 uint32_t cyw43_init(uint32_t country, CYW43_LENT);
@@ -70,7 +75,7 @@ uint32_t cyw43_poll(CYW43_LENT);
 /* Sends a frame of at most 2,030 bytes; interface 0 to 2. */
 uint32_t cyw43_send(uint32_t interface, const uint8_t *frame, size_t frame_len, CYW43_LENT);
 
-/* Takes the frame that waits. Value: its length; it lies at out's front. A refusal leaves out as it was. No bus operation. */
+/* Takes the frame that waits. Value: its length; it lies at out's front. A refusal leaves out as it was. No bus operation, so no undo. */
 uint32_t cyw43_take(uint8_t *session, size_t session_len, const uint8_t *buf, size_t buf_len, uint8_t *out, size_t out_len, uint64_t *result, size_t result_len);
 
 /* pin 0 to 2; level 0 is low. */

@@ -9,6 +9,8 @@
 enum { LOG_WORDS = 8192, RECORDING_WORDS = 4096, ARGUMENT_BYTES = 2048 };
 
 static uint8_t session[CYW43_SESSION_BYTES];
+static uint8_t undo[CYW43_UNDO_BYTES];
+static size_t undo_bytes = sizeof undo;
 static uint8_t buf[CYW43_BUFFER_BYTES];
 static uint32_t log_words[LOG_WORDS];
 static uint64_t result[2];
@@ -100,7 +102,7 @@ static uint32_t wanted(size_t len)
     return log_words[last];
 }
 
-#define LENT session, sizeof session, rec, n, log_words, LOG_WORDS, buf, sizeof buf, result, 2
+#define LENT session, sizeof session, undo, undo_bytes, rec, n, log_words, LOG_WORDS, buf, sizeof buf, result, 2
 
 /* The call with the first n words of its answers; 1 where its argument bytes are too few or too many. */
 static uint32_t enter(struct call *c, size_t n)
@@ -108,7 +110,6 @@ static uint32_t enter(struct call *c, size_t n)
     const uint32_t *rec = c->answers;
     const uint8_t *a = c->args;
     size_t k = c->count;
-    result[0] = result[1] = 0;
     switch (c->number) {
     case 1: return k == 4 ? cyw43_init(le32(a), LENT) : 1;
     case 2: return k == 0 ? cyw43_scan(LENT) : 1;
@@ -139,12 +140,15 @@ static int answers(uint32_t answer, uint32_t operation)
     return answer >> 28 == (kind < 6 ? kind : 6);
 }
 
-/* Calls until the call ends, or no whole answer is left. An answer of another kind must end it with 9. */
+/* Calls until the call ends, or no whole answer is left. An answer of another kind must end it with 9. Each time undo has other bytes. */
 static uint32_t play(struct call *c)
 {
     size_t n = 0;
     int wrong = 0;
+    static uint8_t filler;
     for (;;) {
+        memset(undo, filler++, sizeof undo);
+        result[0] = result[1] = 0;
         uint32_t refusal = enter(c, n);
         if (wrong && refusal != 9)
             fail("an answer of another kind was taken");
@@ -168,33 +172,80 @@ static void print(const struct call *c, uint32_t refusal)
         printf("%08x\n", log_words[i]);
 }
 
-/* Bytes that are no session's are refused, and nothing is changed. */
+static struct {
+    uint8_t session[sizeof session], undo[sizeof undo], buf[sizeof buf];
+    uint32_t log_words[LOG_WORDS];
+} before;
+
+/* A fresh session, and known bytes in all else that is lent. */
+static void begin(void)
+{
+    if (cyw43_fresh(session, sizeof session) != 0)
+        fail("no fresh session");
+    memset(undo, 7, sizeof undo);
+    memset(buf, 7, sizeof buf);
+    memset(log_words, 7, sizeof log_words);
+    result[0] = result[1] = 7;
+}
+
+static void note(void)
+{
+    memcpy(before.session, session, sizeof session);
+    memcpy(before.undo, undo, sizeof undo);
+    memcpy(before.buf, buf, sizeof buf);
+    memcpy(before.log_words, log_words, sizeof log_words);
+}
+
+/* Is all but the result as it was noted? */
+static int as_noted(void)
+{
+    return memcmp(before.session, session, sizeof session) == 0 && memcmp(before.undo, undo, sizeof undo) == 0 &&
+           memcmp(before.buf, buf, sizeof buf) == 0 && memcmp(before.log_words, log_words, sizeof log_words) == 0;
+}
+
+/* Bytes that are no session's are refused, and nothing is changed; with an undo of another length too. */
 static void refused(void)
 {
-    static uint8_t before[sizeof session];
     const struct { size_t at; uint8_t byte; } broken[] = {{4, 2}, {7, 2}, {8, 1}, {16, 2}, {17, 1}, {21, 4}, {22, 6}, {23, 8}, {24, 1}, {32, 2}, {33, 1}};
     for (size_t i = 0; i < sizeof broken / sizeof *broken; i++) {
-        if (cyw43_fresh(session, sizeof session) != 0)
-            fail("no fresh session");
+        begin();
         session[broken[i].at] = broken[i].byte;
-        memcpy(before, session, sizeof session);
-        log_words[0] = 7;
-        result[0] = result[1] = 7;
+        note();
+        undo_bytes = sizeof undo - i % 2;
         size_t n = 0;
         const uint32_t rec[1] = {0};
-        if (cyw43_poll(LENT) != CYW43_NO_SESSION || memcmp(before, session, sizeof session) != 0 || log_words[0] != 7 || result[0] != 7 || result[1] != 7)
+        if (cyw43_poll(LENT) != CYW43_NO_SESSION || !as_noted() || result[0] != 7 || result[1] != 7)
             fail("a broken session was not refused as it was");
     }
+    undo_bytes = sizeof undo;
     if (cyw43_fresh(session, sizeof session - 1) != CYW43_NO_SESSION)
         fail("a short session was made");
+}
+
+/* Every call that takes an undo refuses a shorter one with 13, bad arguments or not; nothing but the result is changed. */
+static void short_undo(struct call *c)
+{
+    const struct { uint32_t call; size_t count; } calls[] = {{1, 4}, {2, 0}, {3, 8}, {4, 0}, {5, 0}, {6, 0}, {7, 4}, {9, 8}, {10, 0}, {11, 8}, {12, 12}, {13, 5}, {14, 0}};
+    memset(c->args, 255, 4);
+    undo_bytes = sizeof undo - 1;
+    for (size_t i = 0; i < sizeof calls / sizeof *calls; i++) {
+        c->number = calls[i].call;
+        c->count = calls[i].count;
+        begin();
+        note();
+        if (enter(c, 0) != 13 || !as_noted() || result[0] != 0 || result[1] != 0)
+            fail("a short undo was not refused as it was");
+    }
+    undo_bytes = sizeof undo;
 }
 
 int main(void)
 {
     static struct call c;
     refused();
-    if (cyw43_fresh(session, sizeof session) != 0)
-        fail("no fresh session");
+    short_undo(&c);
+    begin();
+    memset(buf, 0, sizeof buf);
     for (;;) {
         int read = read_call(&c);
         if (read == 0)

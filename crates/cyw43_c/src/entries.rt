@@ -2,12 +2,9 @@
 use cyw43::fresh::fresh_list;
 use cyw43::fresh::fresh_state;
 use ending::take::take;
-use entry::enter::enter;
-use entry::enter::enter_plain;
+use entering::poll_entry::poll_entered;
+use entering::send_entry::send_entered;
 use entry::hand::hand_state;
-use jobs::PlainCall;
-use jobs::bytes::at_most;
-use jobs::bytes::send_begun;
 use session_bytes::session::Session;
 use session_bytes::session::is_session;
 use session_bytes::session::put_session;
@@ -21,6 +18,7 @@ ghost use Rattle.slices.specs.Pick.{pick};
 ghost use Rattle.definition.specs.Calls.{Call};
 ghost use Rattle.session_bytes.specs.Session.{sessionBytes};
 ghost use Rattle.entry.specs.Entry.{shown, entered, freshSession};
+ghost use Rattle.entering.specs.Entering as placed;
 
 // Where the bytes have a session's length, they become a fresh session's.
 #[no_mangle]
@@ -43,14 +41,15 @@ pub extern "C" fn cyw43_fresh(session: &mut [u8]) -> u32
 #[no_mangle]
 pub extern "C" fn cyw43_poll(
     session: &mut [u8],
+    undo: &mut [u8],
     rec: &[u32],
     log: &mut [u32],
     buf: &mut [u8],
     result: &mut [u64],
 ) -> u32
-    ensures { λ r. ⌜ shown r (now (session .exit)) (now (log .exit)) (now (buf .exit)) [] (now (result .exit)) ≡ entered Call.wifiPoll (now (session .entry)) (now (rec .entry)) (now (log .entry)) (now (buf .entry)) [] (now (result .entry)) ⌝ }
+    ensures { λ r. ⌜ shown r (now (session .exit)) (now (log .exit)) (now (buf .exit)) [] (now (result .exit)) ≡ placed.entered Call.wifiPoll (now (session .entry)) (length (now (undo .entry))) (now (rec .entry)) (now (log .entry)) (now (buf .entry)) [] (now (result .entry)) ⌝ }
 {
-    enter_plain(PlainCall::Poll, session, rec, log, buf, result)
+    poll_entered(session, undo, rec, log, buf, result)
 }
 
 #[no_mangle]
@@ -58,21 +57,15 @@ pub extern "C" fn cyw43_send(
     interface: u32,
     frame: &[u8],
     session: &mut [u8],
+    undo: &mut [u8],
     rec: &[u32],
     log: &mut [u32],
     buf: &mut [u8],
     result: &mut [u64],
 ) -> u32
-    ensures { λ r. ⌜ shown r (now (session .exit)) (now (log .exit)) (now (buf .exit)) [] (now (result .exit)) ≡ entered (Call.sendData interface (now (frame .entry))) (now (session .entry)) (now (rec .entry)) (now (log .entry)) (now (buf .entry)) [] (now (result .entry)) ⌝ }
+    ensures { λ r. ⌜ shown r (now (session .exit)) (now (log .exit)) (now (buf .exit)) [] (now (result .exit)) ≡ placed.entered (Call.sendData interface (now (frame .entry))) (now (session .entry)) (length (now (undo .entry))) (now (rec .entry)) (now (log .entry)) (now (buf .entry)) [] (now (result .entry)) ⌝ }
 {
-    if is_session(session) {
-        let st = state_in(session);
-        let n = at_most(2030, frame.len());
-        let none = [0u8; 0];
-        let b = send_begun(interface, frame, st);
-        return enter(b, &frame[..n], &none, st, session, rec, log, buf, result);
-    }
-    100
+    send_entered(interface, frame, session, undo, rec, log, buf, result)
 }
 
 // No recording is read, and no operation logged.

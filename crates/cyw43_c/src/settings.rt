@@ -1,31 +1,31 @@
 // GPIO, MAC, get, set, variable and up.
-use entry::enter::enter;
-use entry::enter::enter_plain;
+use entering::exchange_entry::plain_entered;
+use entering::exchange_entry::variable_entered;
 use jobs::PlainCall;
-use jobs::bytes::at_most;
-use jobs::bytes::variable_begun;
-use session_bytes::session::is_session;
-use session_bytes::session::state_in;
 ghost use mathlib.Core.Path.{_≡_};
 ghost use mathlib.Core.List.{[]};
+ghost use lib.ListN.{length};
 ghost use Rattle.definition.specs.Calls.{Call};
-ghost use Rattle.entry.specs.Entry.{shown, entered};
+ghost use Rattle.entry.specs.Entry.{shown};
+ghost use Rattle.entering.specs.Entering as placed;
 
 #[no_mangle]
 pub extern "C" fn cyw43_gpio(
     pin: u32,
     level: u32,
     session: &mut [u8],
+    undo: &mut [u8],
     rec: &[u32],
     log: &mut [u32],
     buf: &mut [u8],
     result: &mut [u64],
 ) -> u32
-    ensures { λ r. ⌜ shown r (now (session .exit)) (now (log .exit)) (now (buf .exit)) [] (now (result .exit)) ≡ entered (Call.gpioSet pin level) (now (session .entry)) (now (rec .entry)) (now (log .entry)) (now (buf .entry)) [] (now (result .entry)) ⌝ }
+    ensures { λ r. ⌜ shown r (now (session .exit)) (now (log .exit)) (now (buf .exit)) [] (now (result .exit)) ≡ placed.entered (Call.gpioSet pin level) (now (session .entry)) (length (now (undo .entry))) (now (rec .entry)) (now (log .entry)) (now (buf .entry)) [] (now (result .entry)) ⌝ }
 {
-    enter_plain(
+    plain_entered(
         PlainCall::GpioSet(pin, level),
         session,
+        undo,
         rec,
         log,
         buf,
@@ -36,14 +36,15 @@ pub extern "C" fn cyw43_gpio(
 #[no_mangle]
 pub extern "C" fn cyw43_mac(
     session: &mut [u8],
+    undo: &mut [u8],
     rec: &[u32],
     log: &mut [u32],
     buf: &mut [u8],
     result: &mut [u64],
 ) -> u32
-    ensures { λ r. ⌜ shown r (now (session .exit)) (now (log .exit)) (now (buf .exit)) [] (now (result .exit)) ≡ entered Call.getMacAddr (now (session .entry)) (now (rec .entry)) (now (log .entry)) (now (buf .entry)) [] (now (result .entry)) ⌝ }
+    ensures { λ r. ⌜ shown r (now (session .exit)) (now (log .exit)) (now (buf .exit)) [] (now (result .exit)) ≡ placed.entered Call.getMacAddr (now (session .entry)) (length (now (undo .entry))) (now (rec .entry)) (now (log .entry)) (now (buf .entry)) [] (now (result .entry)) ⌝ }
 {
-    enter_plain(PlainCall::GetMacAddr, session, rec, log, buf, result)
+    plain_entered(PlainCall::GetMacAddr, session, undo, rec, log, buf, result)
 }
 
 #[no_mangle]
@@ -51,16 +52,18 @@ pub extern "C" fn cyw43_get(
     cmd: u32,
     interface: u32,
     session: &mut [u8],
+    undo: &mut [u8],
     rec: &[u32],
     log: &mut [u32],
     buf: &mut [u8],
     result: &mut [u64],
 ) -> u32
-    ensures { λ r. ⌜ shown r (now (session .exit)) (now (log .exit)) (now (buf .exit)) [] (now (result .exit)) ≡ entered (Call.getIoctl cmd interface) (now (session .entry)) (now (rec .entry)) (now (log .entry)) (now (buf .entry)) [] (now (result .entry)) ⌝ }
+    ensures { λ r. ⌜ shown r (now (session .exit)) (now (log .exit)) (now (buf .exit)) [] (now (result .exit)) ≡ placed.entered (Call.getIoctl cmd interface) (now (session .entry)) (length (now (undo .entry))) (now (rec .entry)) (now (log .entry)) (now (buf .entry)) [] (now (result .entry)) ⌝ }
 {
-    enter_plain(
+    plain_entered(
         PlainCall::GetIoctl(cmd, interface),
         session,
+        undo,
         rec,
         log,
         buf,
@@ -74,16 +77,18 @@ pub extern "C" fn cyw43_set(
     value: u32,
     interface: u32,
     session: &mut [u8],
+    undo: &mut [u8],
     rec: &[u32],
     log: &mut [u32],
     buf: &mut [u8],
     result: &mut [u64],
 ) -> u32
-    ensures { λ r. ⌜ shown r (now (session .exit)) (now (log .exit)) (now (buf .exit)) [] (now (result .exit)) ≡ entered (Call.setIoctl cmd value interface) (now (session .entry)) (now (rec .entry)) (now (log .entry)) (now (buf .entry)) [] (now (result .entry)) ⌝ }
+    ensures { λ r. ⌜ shown r (now (session .exit)) (now (log .exit)) (now (buf .exit)) [] (now (result .exit)) ≡ placed.entered (Call.setIoctl cmd value interface) (now (session .entry)) (length (now (undo .entry))) (now (rec .entry)) (now (log .entry)) (now (buf .entry)) [] (now (result .entry)) ⌝ }
 {
-    enter_plain(
+    plain_entered(
         PlainCall::SetIoctl(cmd, value, interface),
         session,
+        undo,
         rec,
         log,
         buf,
@@ -97,42 +102,27 @@ pub extern "C" fn cyw43_variable(
     name: &[u8],
     bytes: &[u8],
     session: &mut [u8],
+    undo: &mut [u8],
     rec: &[u32],
     log: &mut [u32],
     buf: &mut [u8],
     result: &mut [u64],
 ) -> u32
-    ensures { λ r. ⌜ shown r (now (session .exit)) (now (log .exit)) (now (buf .exit)) [] (now (result .exit)) ≡ entered (Call.writeIovar interface (now (name .entry)) (now (bytes .entry))) (now (session .entry)) (now (rec .entry)) (now (log .entry)) (now (buf .entry)) [] (now (result .entry)) ⌝ }
+    ensures { λ r. ⌜ shown r (now (session .exit)) (now (log .exit)) (now (buf .exit)) [] (now (result .exit)) ≡ placed.entered (Call.writeIovar interface (now (name .entry)) (now (bytes .entry))) (now (session .entry)) (length (now (undo .entry))) (now (rec .entry)) (now (log .entry)) (now (buf .entry)) [] (now (result .entry)) ⌝ }
 {
-    if is_session(session) {
-        let st = state_in(session);
-        let n = at_most(2020, name.len());
-        let m = at_most(2020, bytes.len());
-        let b = variable_begun(interface, name, bytes, st);
-        return enter(
-            b,
-            &name[..n],
-            &bytes[..m],
-            st,
-            session,
-            rec,
-            log,
-            buf,
-            result,
-        );
-    }
-    100
+    variable_entered(interface, name, bytes, session, undo, rec, log, buf, result)
 }
 
 #[no_mangle]
 pub extern "C" fn cyw43_up(
     session: &mut [u8],
+    undo: &mut [u8],
     rec: &[u32],
     log: &mut [u32],
     buf: &mut [u8],
     result: &mut [u64],
 ) -> u32
-    ensures { λ r. ⌜ shown r (now (session .exit)) (now (log .exit)) (now (buf .exit)) [] (now (result .exit)) ≡ entered Call.up (now (session .entry)) (now (rec .entry)) (now (log .entry)) (now (buf .entry)) [] (now (result .entry)) ⌝ }
+    ensures { λ r. ⌜ shown r (now (session .exit)) (now (log .exit)) (now (buf .exit)) [] (now (result .exit)) ≡ placed.entered Call.up (now (session .entry)) (length (now (undo .entry))) (now (rec .entry)) (now (log .entry)) (now (buf .entry)) [] (now (result .entry)) ⌝ }
 {
-    enter_plain(PlainCall::Up, session, rec, log, buf, result)
+    plain_entered(PlainCall::Up, session, undo, rec, log, buf, result)
 }

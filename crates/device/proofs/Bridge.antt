@@ -131,7 +131,7 @@ tells-pick : (c : Bool) (b : Bytes) (e : AsyncEvent) (s t : PollStep) → Tells 
 tells-pick true b e s t h g = h
 tells-pick false b e s t h g = g
 
-tells-valued : (p : PollPoint) (v : ℕ) (s : Sdpcm) (b : Bytes) → Tells b (arrivalAt (pollOp p) b s .event) (valuedStep s p v (arrivalAt (pollOp p) b s) .next)
+pub tells-valued : (p : PollPoint) (v : ℕ) (s : Sdpcm) (b : Bytes) → Tells b (arrivalAt (pollOp p) b s .event) (valuedStep s p v (arrivalAt (pollOp p) b s) .next)
 unfolding Tells pollOp arrivalAt arrivalOf valuedStep interruptStep acknowledged statusStep readStep waited arrivedStep
 tells-valued PollPoint.Interrupt v s b = tells-pick (eqb (v % 65536) 0) b _ _ _ (tells-pick (eqb (bitAnd (v % 65536) 0x20) 0) b _ _ _ tt tt) tt
 tells-valued (PollPoint.Acknowledge i) v s b = tells-pick (eqb (bitAnd i 0x20) 0) b _ _ _ tt tt

@@ -78,7 +78,7 @@ pub fn poll_start(s: Sdpcm) -> PollPoint
     }
 }
 
-fn acknowledged(s: Sdpcm, v: u16) -> PollStep
+pub fn acknowledged(s: Sdpcm, v: u16) -> PollStep
     ensures { λ r. ⌜ r ≡ to.acknowledged s v ⌝ }
 {
     if f2_available(v) {
@@ -88,7 +88,7 @@ fn acknowledged(s: Sdpcm, v: u16) -> PollStep
     }
 }
 
-fn interrupt_read(s: Sdpcm, v: u16) -> PollStep
+pub fn interrupt_read(s: Sdpcm, v: u16) -> PollStep
     ensures { λ r. ⌜ r ≡ to.interruptStep s v ⌝ }
 {
     if v == 0 {
@@ -112,7 +112,7 @@ fn by_status(s: Sdpcm, v: u32) -> PollStep
     }
 }
 
-fn status_read(s: Sdpcm, left: u16, v: u32) -> PollStep
+pub fn status_read(s: Sdpcm, left: u16, v: u32) -> PollStep
     ensures { λ r. ⌜ r ≡ to.readStep s left v ⌝ }
 {
     if v == 0xffff_ffff {
@@ -122,7 +122,7 @@ fn status_read(s: Sdpcm, left: u16, v: u32) -> PollStep
     }
 }
 
-fn waited(s: Sdpcm, left: u16) -> PollStep
+pub fn waited(s: Sdpcm, left: u16) -> PollStep
     ensures { λ r. ⌜ r ≡ to.waited s left ⌝ }
 {
     if left == 0 {
@@ -132,7 +132,7 @@ fn waited(s: Sdpcm, left: u16) -> PollStep
     }
 }
 
-fn received(r: RxPacket) -> PollStep
+pub fn received(r: RxPacket) -> PollStep
     ensures { λ x. ⌜ x ≡ to.receivedStep r ⌝ }
 {
     let s = r.sdpcm;

@@ -1,8 +1,5 @@
 // What an entry hands back.
-use session_bytes::session::Session;
-use session_bytes::session::put_session;
 use session_bytes::session::put_state_in;
-use turn::CallEnd;
 use turn::StateEnd;
 use wlan::numbers::refusal_of;
 use wlan::numbers::value_of;
@@ -10,7 +7,6 @@ ghost use mathlib.Core.Path.{_≡_};
 ghost use mathlib.Core.Bool.{true};
 ghost use mathlib.Core.List.{List, [], _∷_};
 ghost use Prim.Native.Nat.{ℕ};
-ghost use lib.ListN.{length};
 ghost use Rattle.slices.specs.Over.{over};
 ghost use Rattle.session_bytes.specs.Session.{sessionIn, isSession};
 ghost use Rattle.turn.specs.Onward.{endOf, withList};
@@ -32,20 +28,8 @@ pub fn put_result(result: &mut [u64], value: u64, len: u64)
     put_number(result, 1, len);
 }
 
-// The refusal's number; state and list go into the session's bytes, value and log length into the result.
-pub fn hand_back(e: CallEnd, session: &mut [u8], result: &mut [u64]) -> u32
-    requires { ⌜ length (now session) ≡ 1393 ⌝ }
-    ensures { λ r. ⌜ ((log buf out : List ℕ) → shown r (now (session .exit)) log buf out (now (result .exit)) ≡ handed (now (result .entry)) (endOf e log buf out)) ⌝ }
-{
-    let o = e.outcome;
-    let st = e.st;
-    let list = e.list;
-    put_session(Session { st: st, list: list }, session);
-    put_result(result, value_of(o), e.len as u64);
-    refusal_of(o)
-}
-
-// The same where the scan list is as it was: its bytes stay.
+// The refusal's number; the state goes into the session's bytes, value and log length into the result. The scan list is as it was: its
+// bytes stay.
 pub fn hand_state(e: StateEnd, session: &mut [u8], result: &mut [u64]) -> u32
     requires { ⌜ isSession (now session) ≡ true ⌝ }
     ensures { λ r. ⌜ ((log buf out : List ℕ) → shown r (now (session .exit)) log buf out (now (result .exit)) ≡ handed (now (result .entry)) (endOf (withList e (sessionIn (now (session .entry)) .list)) log buf out)) ⌝ }

@@ -1,3 +1,2 @@
-// What every C entry does around its call: the session's bytes in and out, value and log length.
-pub mod enter;
+// What every C entry hands back: value and log length, and the state of a call that leaves the scan list.
 pub mod hand;

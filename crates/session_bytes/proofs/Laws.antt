@@ -30,7 +30,7 @@ pub bssid-at : (p : List ℕ) → 42 ≤ length p → getD p 32 0 ∷ getD p 33 
 bssid-at p h =
     rw (drop-cons p 32 0 (omega arith), drop-cons p 33 0 (omega arith), drop-cons p 34 0 (omega arith), drop-cons p 35 0 (omega arith), drop-cons p 36 0 (omega arith), drop-cons p 37 0 (omega arith))
 
-tail-at : (x y z : List ℕ) (k : ℕ) → length x ≡ 32 → length y ≡ 6 → getD (x ++ (y ++ z)) (38 + k) 0 ≡ getD z k 0
+pub tail-at : (x y z : List ℕ) (k : ℕ) → length x ≡ 32 → length y ≡ 6 → getD (x ++ (y ++ z)) (38 + k) 0 ≡ getD z k 0
 tail-at x y z k h g =
     let e : 38 + k ≡ length x + (length y + k) = omega arith in
     rw (e, getD-append-add x (y ++ z) (length y + k) 0, getD-append-add y z k 0)
@@ -55,7 +55,7 @@ record-append : (r : ScanRecord) (t : List ℕ) → recordBytes r ++ t ≡ r .ss
 unfolding recordBytes
 record-append r t = append-assoc (r .ssid) (r .bssid ++ tailBytes r) t ∙ ap (λ (l : List ℕ). r .ssid ++ l) (append-assoc (r .bssid) (tailBytes r) t)
 
-record-size : (r : ScanRecord) → length (r .ssid) ≡ 32 → length (r .bssid) ≡ 6 → length (recordBytes r) ≡ 42
+pub record-size : (r : ScanRecord) → length (r .ssid) ≡ 32 → length (r .bssid) ≡ 6 → length (recordBytes r) ≡ 42
 unfolding recordBytes tailBytes
 record-size r h k = omega (arith, length-append (r .ssid) (r .bssid ++ tailBytes r), length-append (r .bssid) (tailBytes r))
 
@@ -143,7 +143,7 @@ list-back l h w e =
 
 -- ---- the session
 
-state-front : (s : State) (t : List ℕ) → stateIn (stateBytes s ++ t) ≡ stateIn (stateBytes s)
+pub state-front : (s : State) (t : List ℕ) → stateIn (stateBytes s ++ t) ≡ stateIn (stateBytes s)
 unfolding stateIn stateBytes frontBytes pendingBytes linkBytes
 state-front s t = refl
 
@@ -205,7 +205,7 @@ session-form b h = same-eq (sessionBytes (sessionIn b)) b (and-right (eqb (lengt
 
 -- ---- another state before the same list
 
-over-front : (a s t : List ℕ) → length a ≡ length s → over (a ++ t) 0 s ≡ s ++ t
+pub over-front : (a s t : List ℕ) → length a ≡ length s → over (a ++ t) 0 s ≡ s ++ t
 unfolding over
 over-front [] [] t h = over-nil t 0
 over-front [] (y ∷ s) t h = absurd (omega arith)
@@ -213,7 +213,7 @@ over-front (x ∷ a) [] t h = absurd (omega arith)
 over-front (x ∷ a) (y ∷ s) t h = ap (λ (l : List ℕ). y ∷ l) (over-front a s t (omega arith))
 
 module _ (b : List ℕ) (h : isSession b ≡ true) where
-  list-rest : listBytes (sessionIn b .list) ≡ drop 41 b
+  pub list-rest : listBytes (sessionIn b .list) ≡ drop 41 b
   unfolding sessionBytes
   list-rest =
       sym (drop-at (stateBytes (sessionIn b .st)) (listBytes (sessionIn b .list)) 41 (length-state (sessionIn b .st)))

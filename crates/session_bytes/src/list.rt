@@ -28,7 +28,7 @@ fn tail_bytes(r: ScanRecord) -> [u8; 4]
 }
 
 // Lays all of s, so that a compiler knows how much it is.
-fn put_whole(out: &mut [u8], at: usize, s: &[u8])
+pub fn put_whole(out: &mut [u8], at: usize, s: &[u8])
     requires { ⌜ at + length (now s) ≤ length (now out) ⌝ }
     ensures { λ _. ⌜ now (out .exit) ≡ over (now (out .entry)) at (now (s .entry)) ⌝ }
 {
@@ -36,7 +36,7 @@ fn put_whole(out: &mut [u8], at: usize, s: &[u8])
 }
 
 // What is read from the bytes is the record.
-fn put_record(r: ScanRecord, out: &mut [u8], at: usize)
+pub fn put_record(r: ScanRecord, out: &mut [u8], at: usize)
     requires { ⌜ at + 42 ≤ length (now out) ⌝ }
     ensures put { λ _. ⌜ now (out .exit) ≡ over (now (out .entry)) at (to.recordBytes r) ⌝ }
     ensures back { λ _. ⌜ to.Whole r ⌝ }
@@ -62,7 +62,7 @@ fn put_records(records: [ScanRecord; 32], out: &mut [u8])
     }
 }
 
-fn count_bytes(n: usize) -> [u8; 8]
+pub fn count_bytes(n: usize) -> [u8; 8]
     ensures { λ b. ⌜ (b ≡ le64 n) × (le32At b 0 + 4294967296 * le32At b 4 ≡ n) ⌝ }
 {
     [

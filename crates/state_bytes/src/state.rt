@@ -71,7 +71,7 @@ fn pending_bytes(p: Pending) -> [u8; 14]
     ]
 }
 
-fn link_bytes(l: Link) -> [u8; 20]
+pub fn link_bytes(l: Link) -> [u8; 20]
     ensures { λ b. ⌜ (b ≡ to.linkBytes l) × (to.linkIn b ≡ l) ⌝ }
 {
     let s = l.state;

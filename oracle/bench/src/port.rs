@@ -7,6 +7,7 @@ use cyw43_oracle::{
 };
 
 pub const SESSION: usize = 1393;
+pub const UNDO: usize = 3444;
 pub const BUFFER: usize = 2048;
 
 macro_rules! entries {
@@ -14,8 +15,8 @@ macro_rules! entries {
         unsafe extern "C" {
             $(fn $name(
                 $($arg: $kind,)*
-                session: *mut u8, session_len: usize, rec: *const u32, rec_len: usize, log: *mut u32, log_len: usize,
-                buf: *mut u8, buf_len: usize, result: *mut u64, result_len: usize,
+                session: *mut u8, session_len: usize, undo: *mut u8, undo_len: usize, rec: *const u32, rec_len: usize,
+                log: *mut u32, log_len: usize, buf: *mut u8, buf_len: usize, result: *mut u64, result_len: usize,
             ) -> u32;)*
         }
     };
@@ -54,6 +55,7 @@ unsafe extern "C" {
 /// What the caller of the C entries lends.
 pub struct Port {
     pub session: Box<[u8; SESSION]>,
+    undo: Box<[u8; UNDO]>,
     pub buf: Box<[u8; BUFFER]>,
     pub log: Box<[u32; LOG]>,
     pub result: [u64; 2],
@@ -64,19 +66,26 @@ impl Port {
         let mut session = Box::new([0; SESSION]);
         let refused = unsafe { cyw43_fresh(session.as_mut_ptr(), SESSION) };
         assert_eq!(refused, 0, "no fresh session");
-        Self { session, buf: Box::new([0; BUFFER]), log: Box::new([0; LOG]), result: [0; 2] }
+        Self {
+            session,
+            undo: Box::new([0; UNDO]),
+            buf: Box::new([0; BUFFER]),
+            log: Box::new([0; LOG]),
+            result: [0; 2],
+        }
     }
 
     /// One call; gives its refusal.
     #[inline(always)]
     pub fn call(&mut self, call: &Call, rec: &[u32], out: &mut [u8]) -> u32 {
         let session = self.session.as_mut_ptr();
+        let undo = self.undo.as_mut_ptr();
         let buf = self.buf.as_mut_ptr();
         let log = self.log.as_mut_ptr();
         let result = self.result.as_mut_ptr();
         macro_rules! enter {
             ($name:ident $(, $arg:expr)*) => {
-                $name($($arg,)* session, SESSION, rec.as_ptr(), rec.len(), log, LOG, buf, BUFFER, result, 2)
+                $name($($arg,)* session, SESSION, undo, UNDO, rec.as_ptr(), rec.len(), log, LOG, buf, BUFFER, result, 2)
             };
         }
         unsafe {

@@ -1,10 +1,16 @@
+use mathlib.Core.Path.{refl}
 use Rattle.jobs.specs.Jobs.{callOf}
+use Rattle.starting.specs.Starting.{isPoll}
 use borrow.Author.Needs.{needs}
 use Rattle.cyw43_c.proofs.joins.cyw43_init.Statement.{statement}
 use Rattle.cyw43_c.proofs.joins.cyw43_init.Tie as tie
+use Rattle.cyw43_c.proofs.joins.cyw43_init.Reads as reads
+use Rattle.cyw43_c.proofs.joins.cyw43_init.Lts as lts
+use Rattle.entering.proofs.exchange_entry.plain_entered.Reads as plain-entered-reads
 
-enter-plain-requires : tie.Need-enter-plain-requires
-enter-plain-requires c κs = search needs
+plain-entered-requires : tie.Need-plain-entered-requires
+unfolding isPoll
+plain-entered-requires c κs = refl
 
 same-length : tie.Need-same-length
 same-length c = search needs
@@ -18,11 +24,21 @@ same-length-3 c = search needs
 same-length-4 : tie.Need-same-length-4
 same-length-4 c = search needs
 
+same-length-5 : tie.Need-same-length-5
+same-length-5 c = search needs
+
 returns : tie.Need-returns
 unfolding callOf
-returns c = c .before .before .before .before .before .before .before .before .enter-plain .ensures
+returns c = c .before .before .before .before .before .before .before .before .before .before .plain-entered .ensures
 
 pub cyw43-init-spec : {M : Type 1} → statement M
 cyw43-init-spec =
     tie.close
-    (tie.spec enter-plain-requires same-length same-length-2 same-length-3 same-length-4 returns)
+    (tie.spec
+    plain-entered-requires
+    same-length
+    same-length-2
+    same-length-3
+    same-length-4
+    same-length-5
+    returns)

@@ -1,0 +1,144 @@
+-- What a step of a call's exchanges leaves: in a session's bytes (b before it, d after it), in the work buffer (c and f), and in what is
+-- kept (u and v). The code's flat values in the mirror's terms.
+use Prim.Native.Nat.{ℕ}
+use mathlib.Core.Path.{_≡_}
+use mathlib.Core.Bool.{Bool, false}
+use mathlib.Core.List.{List}
+use Rattle.slices.specs.Pick.{pick}
+use Rattle.wlan.specs.declared.AsyncEvent.{AsyncEvent}
+use Rattle.wlan.specs.declared.DriverError.{DriverError}
+use Rattle.wlan.specs.declared.State.{State}
+use Rattle.wlan.specs.declared.WifiAuth.{WifiAuth}
+use Rattle.wlan.specs.declared.WifiState.{WifiState}
+use Rattle.wlan.specs.State.{withLink, setLinkState, setAuth}
+use Rattle.definition.specs.Bus.{Bytes}
+use Rattle.definition.specs.Scan.{cleared}
+use Rattle.requests.specs.declared.Request.{Request}
+use Rattle.send.specs.declared.HeaderPut.{HeaderPut}
+use Rattle.control.specs.declared.Before.{Before}
+use Rattle.control.specs.declared.CallNext.{CallNext}
+use Rattle.control.specs.declared.CallPoint.{CallPoint}
+use Rattle.control.specs.declared.CallStep.{CallStep}
+use Rattle.control.specs.declared.Ending.{Ending}
+use Rattle.control.specs.declared.Job.{Job}
+use Rattle.control.specs.declared.Lay.{Lay}
+use Rattle.control.specs.declared.Lens.{Lens}
+use Rattle.control.specs.declared.PausePoint.{PausePoint}
+use Rattle.control.specs.declared.RequestPut.{RequestPut}
+use Rattle.control.specs.declared.Stage.{Stage}
+use Rattle.control.specs.Steps.{lays, step, asks, ends, refuses, linkedState}
+use Rattle.control.specs.Exchange as to
+use Rattle.control.specs.Meaning.{Args, laidAll, listAt}
+use Rattle.session_bytes.specs.declared.session.Session.{Session}
+use Rattle.session_bytes.specs.Session.{sessionIn, withState}
+use Rattle.places.specs.Places.{Holds}
+use Rattle.undo.specs.Undo.{Kept, backSession, backBuf}
+use Rattle.replying.specs.Replying as reply
+use Rattle.exchanging.specs.declared.now.CallKind.{CallKind}
+use Rattle.exchanging.specs.declared.now.CallNow.{CallNow}
+use Rattle.exchanging.specs.declared.now.PauseKind.{PauseKind}
+use Rattle.exchanging.specs.declared.plan.Plan.{Plan}
+use Rattle.exchanging.specs.declared.plan.PlanKind.{PlanKind}
+use Rattle.exchanging.specs.declared.plan.Resume.{Resume}
+use Rattle.exchanging.specs.declared.plan.ResumeKind.{ResumeKind}
+
+-- ---- the flat values
+
+unfoldable pub pauseBy : PauseKind → ℕ → PausePoint
+pauseBy PauseKind.AfterCountry ns = PausePoint.AfterCountry
+pauseBy PauseKind.Settle ns = PausePoint.Settle ns
+pauseBy PauseKind.AfterEventMessages ns = PausePoint.AfterEventMessages
+pauseBy PauseKind.AfterUp ns = PausePoint.AfterUp
+pauseBy PauseKind.BeforeKey ns = PausePoint.BeforeKey
+pauseBy PauseKind.BeforeSae ns = PausePoint.BeforeSae
+
+unfoldable pub nextBy : CallKind → CallNow → CallNext
+nextBy CallKind.Exchange r = CallNext.Ask (CallPoint.Exchange (r .stage) (reply.pointOf (r .at)))
+nextBy CallKind.Pause r = CallNext.Ask (CallPoint.Pause (pauseBy (r .pause) (r .ns)))
+nextBy CallKind.Clock r = CallNext.Ask CallPoint.Clock
+nextBy CallKind.Tick r = CallNext.Ask CallPoint.Tick
+nextBy CallKind.Ended r = CallNext.Ended (r .ending)
+nextBy CallKind.Refused r = CallNext.Refused (r .error)
+
+abbrev pub nextOf : CallNow → CallNext
+nextOf r = nextBy (r .kind) r
+
+-- ---- what follows an exchange that is done, and a wait
+
+abbrev pub pausing : State → Bool → Before → PauseKind → CallStep
+pausing s h before p = asks s h before (CallPoint.Pause (pauseBy p 0))
+
+abbrev pub keyLaid : State → Bool → Before → CallStep
+keyLaid s h before = step s h (lays before (RequestPut.Payload Request.Key) HeaderPut.None) (CallNext.Ask (CallPoint.Pause PausePoint.BeforeKey))
+
+-- the last request of a join of this auth begins
+abbrev pub connectingBy : WifiAuth → State → State
+connectingBy a s = withLink s (setLinkState (setAuth (s .link) a) WifiState.Connecting)
+
+unfoldable pub planBy : PlanKind → Plan → Job → Lens → State → Bool → Before → CallStep
+planBy PlanKind.Begin r j l s h before = to.begins j l (r .stage) s h before
+planBy PlanKind.Pause r j l s h before = pausing s h before (r .pause)
+planBy PlanKind.Clock r j l s h before = asks s h before CallPoint.Clock
+planBy PlanKind.Tick r j l s h before = asks s h before CallPoint.Tick
+planBy PlanKind.LayKey r j l s h before = keyLaid s h before
+planBy PlanKind.LongPassphrase r j l s h before = refuses s h before DriverError.InvalidArg
+planBy PlanKind.Join r j l s h before = to.begins j l Stage.Ssid (to.connectingState j s) h before
+planBy PlanKind.LongSsid r j l s h before = refuses (linkedState (to.connectingState j s) WifiState.Down) h before DriverError.InvalidArg
+planBy PlanKind.Scan r j l s h before = to.scanStep s h before
+planBy PlanKind.Done r j l s h before = ends s h before Ending.Done
+planBy PlanKind.Give r j l s h before = ends s h before (j .ending)
+
+abbrev pub planned : Plan → Job → Lens → State → Bool → Before → CallStep
+planned r j l s h before = planBy (r .kind) r j l s h before
+
+unfoldable pub resumeBy : ResumeKind → Stage → Job → Lens → State → CallStep
+resumeBy ResumeKind.Begin g j l s = to.begins j l g s false Before.None
+resumeBy ResumeKind.Numbered g j l s = to.beginsNumbered j l g s
+resumeBy ResumeKind.Done g j l s = ends s false Before.None Ending.Done
+
+abbrev pub resumed : Resume → Job → Lens → State → CallStep
+resumed r j l s = resumeBy (r .kind) (r .stage) j l s
+
+-- ---- what a step leaves
+
+-- it changes the state alone: y is laid already, and what was heard before it is in the list
+pub record Sets (b d : List ℕ) (r : CallNow) (h : Bool) (y : Lay) (s : CallStep) : Type 0 where
+  pub next : nextOf r ≡ s .next
+  pub held : Holds d (withState b (s .st))
+  pub heard : s .heard ≡ h
+  pub clear : s .clear ≡ false
+  pub lay : s .lay ≡ y
+
+-- the session that bytes hold, with a step's state, its list cleared where the step says so
+abbrev pub leftBy : List ℕ → CallStep → Session
+leftBy b s = record { st = s .st; list = pick (s .clear) (cleared (sessionIn b .list)) (sessionIn b .list) }
+
+-- it clears the list too
+pub record Clears (b d : List ℕ) (r : CallNow) (h : Bool) (y : Lay) (s : CallStep) : Type 0 where
+  pub next : nextOf r ≡ s .next
+  pub held : Holds d (leftBy b s)
+  pub heard : s .heard ≡ h
+  pub lay : s .lay ≡ y
+  pub session : {u : List ℕ} → Kept u → backSession u d ≡ backSession u b
+
+-- it lays what it lays in c₀, of which c has the first part already; what was heard before it is in the list
+pub record Acts (a : Args) (u v b d : List ℕ) (c₀ c f : Bytes) (r : CallNow) (h : Bool) (s : CallStep) : Type 0 where
+  pub next : nextOf r ≡ s .next
+  pub laid : f ≡ laidAll a (s .lay) c₀
+  pub held : Holds d (leftBy b s)
+  pub heard : s .heard ≡ h
+  pub kept : Kept v
+  pub session : backSession v d ≡ backSession u b
+  pub buf : backBuf v f ≡ backBuf u c
+
+-- e: the event that came
+abbrev pub listed : List ℕ → AsyncEvent → CallStep → Session
+listed b e s = record { st = s .st; list = listAt (s .heard) (s .clear) e (sessionIn b .list) }
+
+pub record Calls (a : Args) (u v b d : List ℕ) (c f : Bytes) (r : CallNow) (e : AsyncEvent) (s : CallStep) : Type 0 where
+  pub next : nextOf r ≡ s .next
+  pub laid : f ≡ laidAll a (s .lay) c
+  pub held : Holds d (listed b e s)
+  pub kept : Kept v
+  pub session : backSession v d ≡ backSession u b
+  pub buf : backBuf v f ≡ backBuf u c

@@ -1,0 +1,168 @@
+// A stage's exchange begins.
+use crate::now::CallNow;
+use crate::now::exchange_at;
+use crate::now::refuse;
+use control::Job;
+use control::Lens;
+use control::Stage;
+use laying::lay_numbered;
+use laying::lay_whole;
+use places::read::sdpcm_at;
+use places::write::put_wifi;
+use replying::IoctlNow;
+use replying::IoctlNowKind;
+use replying::ioctl_start;
+use requests::Request;
+use sdpcm::header::next_id;
+use steps::stages::is_last;
+use steps::stages::request_at;
+use steps::stages::request_len;
+use steps::steps::is_dev_error;
+use wlan::DriverError;
+use wlan::WifiState;
+ghost use mathlib.Core.Path.{_≡_};
+ghost use mathlib.Core.Bool.{Bool, true, false};
+ghost use lib.ListN.{length};
+ghost use Rattle.definition.specs.Bus.{Bytes};
+ghost use Rattle.send.specs.declared.HeaderPut.{HeaderPut};
+ghost use Rattle.ioctl.specs.Ioctl.{startStep};
+ghost use Rattle.control.specs.declared.Before.{Before};
+ghost use Rattle.control.specs.declared.Lay.{Lay};
+ghost use Rattle.control.specs.declared.RequestPut.{RequestPut};
+ghost use Rattle.control.specs.Meaning.{Args, laidBefore, laidRequest};
+ghost use Rattle.control.specs.Stages.{requestAt, requestLen};
+ghost use Rattle.control.specs.Steps.{lays};
+ghost use Rattle.control.specs.Exchange as to;
+ghost use Rattle.effects.specs.Args.{argsOf};
+ghost use Rattle.session_bytes.specs.Session.{isSession, sessionIn};
+ghost use Rattle.undo.specs.Undo.{Kept};
+ghost use Rattle.replying.specs.Replying as reply;
+ghost use Rattle.exchanging.specs.Exchanging as at;
+
+// How long a stage's payload is.
+pub fn stage_len(j: Job, g: Stage, l: Lens) -> u16
+    ensures { λ n. ⌜ n ≡ requestLen (requestAt j g) l ⌝ }
+{
+    let single = j.request;
+    match g {
+        Stage::Country => 20,
+        Stage::AntDiv => 4,
+        Stage::Txglom => 15,
+        Stage::Apsta => 10,
+        Stage::BaWsize => 19,
+        Stage::Mpdu => 15,
+        Stage::RxFactor => 20,
+        Stage::EventMessages => 41,
+        Stage::InitUp => 0,
+        Stage::JoinBaWsize => 19,
+        Stage::Wsec => 4,
+        Stage::SupWpa => 23,
+        Stage::Eapver => 31,
+        Stage::SupWpaTmo => 27,
+        Stage::Key => request_len(Request::Key, l),
+        Stage::Sae => request_len(Request::SaePassword, l),
+        Stage::Infra => 4,
+        Stage::Auth => 4,
+        Stage::Mfp => 8,
+        Stage::WpaAuth => 4,
+        Stage::Ssid => request_len(Request::Ssid, l),
+        Stage::Escan => 82,
+        Stage::Disassoc => 4,
+        Stage::Single => request_len(single, l),
+    }
+}
+
+// A beginning was refused; join's last request leaves Down.
+fn unbegun(s: &mut [u8], g: Stage, e: DriverError) -> CallNow
+    requires { ⌜ isSession (now s) ≡ true ⌝ }
+    ensures { λ r. ⌜ ((h : Bool) (lay : Lay) → at.Sets (now (s .entry)) (now (s .exit)) r h lay (to.unbegun (sessionIn (now (s .entry)) .st) g h lay e)) ⌝ }
+{
+    if is_dev_error(e) {
+        if is_last(g) {
+            put_wifi(s, WifiState::Down);
+            refuse(e)
+        } else {
+            refuse(e)
+        }
+    } else {
+        refuse(e)
+    }
+}
+
+// After the first step of the exchange.
+fn begun(s: &mut [u8], n: IoctlNow, g: Stage) -> CallNow
+    requires { ⌜ isSession (now s) ≡ true ⌝ }
+    ensures { λ r. ⌜ ((h : Bool) (before : Before) (put : RequestPut) (x : HeaderPut) → at.Sets (now (s .entry)) (now (s .exit)) r h (lays before put (reply.headerIn (reply.nextOf n x))) (to.begunBy (reply.nextOf n x) (sessionIn (now (s .entry)) .st) g h before put)) ⌝ }
+{
+    let k = n.kind;
+    let p = n.at;
+    let e = n.error;
+    match k {
+        IoctlNowKind::Ask => exchange_at(g, p),
+        IoctlNowKind::Done => refuse(DriverError::InvalidArg),
+        IoctlNowKind::Refused => unbegun(s, g, e),
+    }
+}
+
+fn new_id(s: &[u8]) -> u8
+    requires { ⌜ isSession (now s) ≡ true ⌝ }
+    ensures { λ r. ⌜ r ≡ to.newId (sessionIn (now (s .entry)) .st) ⌝ }
+{
+    let t = next_id(sdpcm_at(s));
+    t.requested_ioctl_id
+}
+
+// The request lies in buf; len is its payload's length.
+fn begin_laid(s: &mut [u8], undo: &mut [u8], buf: &mut [u8], g: Stage, len: u16) -> CallNow
+    requires { ⌜ isSession (now s) ≡ true ⌝ }
+    requires { ⌜ Kept (now undo) ⌝ }
+    requires { ⌜ length (now buf) ≡ 2048 ⌝ }
+    ensures { λ r. ⌜ ((a : Args) (h : Bool) (before : Before) (put : RequestPut) (c₀ : Bytes) → now (buf .entry) ≡ laidRequest a put (laidBefore before c₀) → at.Acts a (now (undo .entry)) (now (undo .exit)) (now (s .entry)) (now (s .exit)) c₀ (now (buf .entry)) (now (buf .exit)) r h (to.begun (startStep (sessionIn (now (s .entry)) .st) len) g h before put)) ⌝ }
+{
+    let n = ioctl_start(s, undo, buf, len);
+    begun(s, n, g)
+}
+
+// A stage's request is laid, and its exchange begins. buf has `before` laid already.
+pub fn begin(
+    j: Job,
+    l: Lens,
+    g: Stage,
+    s: &mut [u8],
+    undo: &mut [u8],
+    buf: &mut [u8],
+    first: &[u8],
+    second: &[u8],
+) -> CallNow
+    requires { ⌜ isSession (now s) ≡ true ⌝ }
+    requires { ⌜ Kept (now undo) ⌝ }
+    requires { ⌜ length (now buf) ≡ 2048 ⌝ }
+    ensures { λ r. ⌜ ((h : Bool) (before : Before) (c₀ : Bytes) → now (buf .entry) ≡ laidBefore before c₀ → at.Acts (argsOf j (now (first .entry)) (now (second .entry))) (now (undo .entry)) (now (undo .exit)) (now (s .entry)) (now (s .exit)) c₀ (now (buf .entry)) (now (buf .exit)) r h (to.begins j l g (sessionIn (now (s .entry)) .st) h before)) ⌝ }
+{
+    let r = request_at(j, g);
+    let id = new_id(s);
+    lay_whole(undo, buf, r, first, second, id);
+    begin_laid(s, undo, buf, g, request_len(r, l))
+}
+
+// The same where the payload lies there already.
+pub fn begin_numbered(
+    j: Job,
+    l: Lens,
+    g: Stage,
+    s: &mut [u8],
+    undo: &mut [u8],
+    buf: &mut [u8],
+    first: &[u8],
+    second: &[u8],
+) -> CallNow
+    requires { ⌜ isSession (now s) ≡ true ⌝ }
+    requires { ⌜ Kept (now undo) ⌝ }
+    requires { ⌜ length (now buf) ≡ 2048 ⌝ }
+    ensures { λ r. ⌜ at.Acts (argsOf j (now (first .entry)) (now (second .entry))) (now (undo .entry)) (now (undo .exit)) (now (s .entry)) (now (s .exit)) (now (buf .entry)) (now (buf .entry)) (now (buf .exit)) r false (to.beginsNumbered j l g (sessionIn (now (s .entry)) .st)) ⌝ }
+{
+    let r = request_at(j, g);
+    let id = new_id(s);
+    lay_numbered(undo, buf, r, first, second, id);
+    begin_laid(s, undo, buf, g, request_len(r, l))
+}

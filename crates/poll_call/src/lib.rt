@@ -1,0 +1,217 @@
+// `poll` over its recording, on a session's bytes.
+use asking::Asked;
+use asking::ask_tick;
+use polls::NowKind;
+use polls::PollNow;
+use polls::poll_answer;
+use polls::poll_tick;
+use receive::polled::PollAt;
+use receive::polled::PollKind;
+use receive::polled::poll_from;
+use turning::RunEnd;
+use turning::back_end;
+use turning::device_ask;
+use turning::error_end;
+use turning::fault_end;
+use turning::is_back;
+use turning::value_end;
+use wlan::DriverError;
+ghost use mathlib.Core.Path.{_≡_};
+ghost use mathlib.Core.Bool.{true, false};
+ghost use mathlib.Core.List.{List};
+ghost use Prim.Native.Nat.{ℕ, _≤_, _<_};
+ghost use lib.ListN.{length, drop};
+ghost use Rattle.wlan.specs.declared.BusAnswer.{BusAnswer};
+ghost use Rattle.definition.specs.Bus.{Ans, Bytes};
+ghost use Rattle.definition.specs.Prog.{World};
+ghost use Rattle.device.specs.Poll.{pollOp, pollStart};
+ghost use Rattle.device.specs.Meaning.{told, landing, InRange};
+ghost use Rattle.control.specs.declared.CallNext as next;
+ghost use Rattle.control.specs.declared.CallPoint as point;
+ghost use Rattle.control.specs.Meaning.{callTree, Kc};
+ghost use Rattle.session_bytes.specs.Session.{isSession, sessionIn};
+ghost use Rattle.receive.specs.Receive.{pointOf};
+ghost use Rattle.turn.specs.Onward.{go};
+ghost use Rattle.undo.specs.Undo.{Kept, backSession, backBuf};
+ghost use Rattle.polls.specs.Polls.{NextIs};
+ghost use Rattle.turning.specs.Turning as turning;
+ghost use Rattle.poll_call.specs.PollCall as to;
+
+// A turn goes on at an operation of the device's poll, or the poll is over. end.len: how many words are in the log.
+pub struct PollTurned {
+    pub on: bool,
+    pub at: PollAt,
+    pub pos: usize,
+    pub end: RunEnd,
+}
+
+fn over(end: RunEnd) -> PollTurned
+    ensures { λ r. ⌜ (r .on ≡ false) × (r .end ≡ end) ⌝ }
+{
+    PollTurned {
+        on: false,
+        at: PollAt {
+            kind: PollKind::Interrupt,
+            n: 0,
+        },
+        pos: 0,
+        end: end,
+    }
+}
+
+fn onward(p: PollAt, pos: usize, len: usize) -> PollTurned
+    ensures { λ r. ⌜ (r .on ≡ true) × (r .at ≡ p) × (r .pos ≡ pos) × (r .end .len ≡ len) ⌝ }
+{
+    PollTurned {
+        on: true,
+        at: p,
+        pos: pos,
+        end: value_end(0, len),
+    }
+}
+
+// The tick is read; the disconnect began at this one.
+fn tick_over(
+    started: u64,
+    pos: usize,
+    len: usize,
+    s: &mut [u8],
+    rec: &[u32],
+    log: &mut [u32],
+) -> RunEnd
+    requires { ⌜ isSession (now s) ≡ true ⌝ }
+    ensures on { λ r. ⌜ ((e : World) (buf : Bytes) → turning.Ends e (go e (drop pos (now (rec .entry))) (now (log .entry)) len (callTree to.noArgs (next.CallNext.Ask (point.CallPoint.PollTick started)) (turning.worldIn (now (s .entry)) buf))) r (now (log .exit)) (now (s .exit)) buf) ⌝ }
+    ensures held { λ _. ⌜ to.Front (now (s .entry)) (now (s .exit)) ⌝ }
+{
+    let a = ask_tick(pos, len, rec, log);
+    if is_back(a) {
+        return back_end(a);
+    }
+    if a.fault {
+        return fault_end(a.value, a.len);
+    }
+    value_end(poll_tick(s, started, a.value), a.len)
+}
+
+// From where a poll stands.
+fn poll_now(
+    n: PollNow,
+    pos: usize,
+    len: usize,
+    s: &mut [u8],
+    rec: &[u32],
+    log: &mut [u32],
+) -> PollTurned
+    requires { ⌜ isSession (now s) ≡ true ⌝ }
+    ensures on { λ r. ⌜ ((e : World) (buf : Bytes) (x : next.CallNext) → NextIs n x → to.Turns e (go e (drop pos (now (rec .entry))) (now (log .entry)) len (callTree to.noArgs x (turning.worldIn (now (s .entry)) buf))) (now (rec .entry)) r (now (log .exit)) (now (s .exit)) buf) ⌝ }
+    ensures held { λ _. ⌜ to.Front (now (s .entry)) (now (s .exit)) ⌝ }
+    ensures grew { λ r. ⌜ (r .on ≡ true → r .end .len ≡ len) ⌝ }
+{
+    let k = n.kind;
+    let p = n.at;
+    match k {
+        NowKind::Ask => onward(p, pos, len),
+        NowKind::Tick => over(tick_over(n.number, pos, len, s, rec, log)),
+        NowKind::Over => over(value_end(n.number, len)),
+        NowKind::HeaderBeyond => over(error_end(DriverError::EventHeader, len)),
+    }
+}
+
+// The value of an answer to the operation at p. buf has what it left.
+fn poll_valued(
+    p: PollAt,
+    v: u64,
+    pos: usize,
+    len: usize,
+    s: &mut [u8],
+    undo: &mut [u8],
+    rec: &[u32],
+    log: &mut [u32],
+    buf: &[u8],
+) -> PollTurned
+    requires { ⌜ isSession (now s) ≡ true ⌝ }
+    requires { ⌜ Kept (now undo) ⌝ }
+    requires { ⌜ length (now buf) ≡ 2048 ⌝ }
+    ensures on { λ r. ⌜ ((y : Ans) (b : Bytes) → BusAnswer.Value v ≡ told y → InRange (pollOp (pointOf p)) y → now (buf .entry) ≡ landing (pollOp (pointOf p)) y b → (e : World) → to.Turns e (go e (drop pos (now (rec .entry))) (now (log .entry)) len (Kc to.noArgs (point.CallPoint.Poll (pointOf p)) y (turning.worldIn (now (s .entry)) b))) (now (rec .entry)) r (now (log .exit)) (now (s .exit)) (now (buf .entry))) ⌝ }
+    ensures held { λ _. ⌜ isSession (now (s .exit)) ≡ true ⌝ }
+    ensures kept { λ _. ⌜ Kept (now (undo .exit)) × (backSession (now (undo .exit)) (now (s .exit)) ≡ backSession (now (undo .entry)) (now (s .entry))) × ((b : Bytes) → backBuf (now (undo .exit)) b ≡ backBuf (now (undo .entry)) b) ⌝ }
+    ensures grew { λ r. ⌜ (r .on ≡ true → r .end .len ≡ len) ⌝ }
+{
+    let n = poll_answer(s, undo, buf, p, v);
+    poll_now(n, pos, len, s, rec, log)
+}
+
+// What the operation at p was answered.
+fn poll_asked(
+    p: PollAt,
+    a: Asked,
+    s: &mut [u8],
+    undo: &mut [u8],
+    rec: &[u32],
+    log: &mut [u32],
+    buf: &[u8],
+) -> PollTurned
+    requires { ⌜ isSession (now s) ≡ true ⌝ }
+    requires { ⌜ Kept (now undo) ⌝ }
+    requires { ⌜ length (now buf) ≡ 2048 ⌝ }
+    ensures on { λ r. ⌜ ((log₀ : List ℕ) (pos len : ℕ) (b : Bytes) → to.Asking p (now (rec .entry)) log₀ (now (log .entry)) pos len b (now (buf .entry)) a → (e : World) → to.Turns e (go e (drop pos (now (rec .entry))) log₀ len (callTree to.noArgs (next.CallNext.Ask (point.CallPoint.Poll (pointOf p))) (turning.worldIn (now (s .entry)) b))) (now (rec .entry)) r (now (log .exit)) (now (s .exit)) (now (buf .entry))) ⌝ }
+    ensures held { λ _. ⌜ isSession (now (s .exit)) ≡ true ⌝ }
+    ensures kept { λ _. ⌜ Kept (now (undo .exit)) × (backSession (now (undo .exit)) (now (s .exit)) ≡ backSession (now (undo .entry)) (now (s .entry))) × ((b : Bytes) → backBuf (now (undo .exit)) b ≡ backBuf (now (undo .entry)) b) ⌝ }
+    ensures grew { λ r. ⌜ ((room len : ℕ) → to.Grows room len a → r .on ≡ true → (len < r .end .len) × (r .end .len ≤ room)) ⌝ }
+{
+    if is_back(a) {
+        return over(back_end(a));
+    }
+    if a.fault {
+        return over(fault_end(a.value, a.len));
+    }
+    poll_valued(p, a.value, a.pos, a.len, s, undo, rec, log, buf)
+}
+
+// One operation, its answer, and what follows.
+pub fn poll_turn(
+    p: PollAt,
+    pos: usize,
+    len: usize,
+    s: &mut [u8],
+    undo: &mut [u8],
+    rec: &[u32],
+    log: &mut [u32],
+    buf: &mut [u8],
+) -> PollTurned
+    requires { ⌜ isSession (now s) ≡ true ⌝ }
+    requires { ⌜ Kept (now undo) ⌝ }
+    requires { ⌜ length (now buf) ≡ 2048 ⌝ }
+    ensures on { λ r. ⌜ ((e : World) → to.Turns e (go e (drop pos (now (rec .entry))) (now (log .entry)) len (callTree to.noArgs (next.CallNext.Ask (point.CallPoint.Poll (pointOf p))) (turning.worldIn (now (s .entry)) (now (buf .entry))))) (now (rec .entry)) r (now (log .exit)) (now (s .exit)) (now (buf .exit))) ⌝ }
+    ensures held { λ _. ⌜ isSession (now (s .exit)) ≡ true ⌝ }
+    ensures kept { λ _. ⌜ turning.KeptAll (now (undo .entry)) (now (undo .exit)) (now (s .entry)) (now (s .exit)) (now (buf .entry)) (now (buf .exit)) ⌝ }
+    ensures grew { λ r. ⌜ (r .on ≡ true → (len < r .end .len) × (r .end .len ≤ length (now (log .entry)))) ⌝ }
+{
+    let a = device_ask(p, pos, len, undo, rec, log, buf);
+    poll_asked(p, a, s, undo, rec, log, buf)
+}
+
+// From its beginning to its end.
+pub fn poll_run(
+    s: &mut [u8],
+    undo: &mut [u8],
+    rec: &[u32],
+    log: &mut [u32],
+    buf: &mut [u8],
+) -> RunEnd
+    requires { ⌜ isSession (now s) ≡ true ⌝ }
+    requires { ⌜ Kept (now undo) ⌝ }
+    requires { ⌜ length (now buf) ≡ 2048 ⌝ }
+    ensures on { λ r. ⌜ ((e : World) → turning.Ends e (go e (drop 0 (now (rec .entry))) (now (log .entry)) 0 (callTree to.noArgs (next.CallNext.Ask (point.CallPoint.Poll (pollStart (sessionIn (now (s .entry)) .st .sdpcm)))) (turning.worldIn (now (s .entry)) (now (buf .entry))))) r (now (log .exit)) (now (s .exit)) (now (buf .exit))) ⌝ }
+    ensures held { λ _. ⌜ isSession (now (s .exit)) ≡ true ⌝ }
+    ensures kept { λ _. ⌜ turning.KeptAll (now (undo .entry)) (now (undo .exit)) (now (s .entry)) (now (s .exit)) (now (buf .entry)) (now (buf .exit)) ⌝ }
+{
+    let mut t = onward(poll_from(s), 0, 0);
+    while t.on {
+        let p = t.at;
+        let end = t.end;
+        t = poll_turn(p, t.pos, end.len, s, undo, rec, log, buf);
+    }
+    let end = t.end;
+    end
+}

@@ -1,0 +1,108 @@
+-- A step that leaves the list, one after a change of the state, and one after an event.
+use Prim.Native.Nat.{ℕ}
+use mathlib.Core.Path.{_≡_, refl, sym, ap, _∙_}
+use mathlib.Core.Bool.{Bool, true, false}
+use mathlib.Core.List.{List}
+use Rattle.wlan.specs.declared.AsyncEvent.{AsyncEvent}
+use Rattle.wlan.specs.declared.DriverError.{DriverError}
+use Rattle.wlan.specs.declared.WlanPollResult.{WlanPollResult}
+use Rattle.wlan.specs.declared.State.{State}
+use Rattle.wlan.specs.Outcome.{pollValue}
+use Rattle.handling.specs.Handle.{handledOf, listHeard}
+use Rattle.control.specs.declared.Before.{Before}
+use Rattle.control.specs.declared.CallNext.{CallNext}
+use Rattle.control.specs.declared.CallPoint.{CallPoint}
+use Rattle.control.specs.declared.CallStep.{CallStep}
+use Rattle.control.specs.declared.Ending.{Ending}
+use Rattle.control.specs.Steps.{step, layBefore}
+use Rattle.control.specs.Poll as to
+use Rattle.control.specs.Meaning.{listAt}
+use Rattle.session_bytes.specs.declared.session.Session.{Session}
+use Rattle.session_bytes.specs.Session.{isSession, sessionIn, withState}
+use Rattle.session_bytes.proofs.Laws.{session-length}
+use Rattle.places.specs.Places.{Holds}
+use Rattle.hearing.proofs.Laws.{records-kept}
+use Rattle.receive.specs.Receive.{pointOf}
+use Rattle.receive.specs.declared.polled.PollAt.{PollAt}
+use Rattle.undo.specs.Undo.{Kept, backSession}
+use Rattle.undo.proofs.Laws.{front-changed}
+use Rattle.arriving.specs.Arriving.{KeptFor, handledSession}
+use Rattle.polls.specs.declared.NowKind.{NowKind}
+use Rattle.polls.specs.declared.PollNow.{PollNow}
+use Rattle.polls.specs.Polls.{Gives, NextBy, NextIs, Quiet, Quiets, Reports, Stepped}
+
+-- ---- where a poll stands
+
+pub asked : (r : PollNow) {p : PollAt} → r .kind ≡ NowKind.Ask → r .at ≡ p → NextIs r (CallNext.Ask (CallPoint.Poll (pointOf p)))
+unfolding NextBy
+asked r k a = rw (k, a) refl
+
+pub ticked : (r : PollNow) {t : ℕ} → r .kind ≡ NowKind.Tick → r .number ≡ t → NextIs r (CallNext.Ask (CallPoint.PollTick t))
+unfolding NextBy
+ticked r k e = rw (k, e) refl
+
+pub ended : (r : PollNow) {v : ℕ} (n : CallNext) → r .kind ≡ NowKind.Over → r .number ≡ v → Gives n v → NextIs r n
+unfolding NextBy
+ended r n k e g = rw (k, e) g
+
+pub beyond : (r : PollNow) → r .kind ≡ NowKind.HeaderBeyond → NextIs r (CallNext.Refused DriverError.EventHeader)
+unfolding NextBy
+beyond r k = rw k refl
+
+pub polled-gives : (p : WlanPollResult) → Gives (CallNext.Ended (Ending.Polled p)) (pollValue p)
+unfolding Gives
+polled-gives p = refl
+
+-- ---- what its step leaves
+
+pub still : {N : CallNext → Type 0} {b : List ℕ} {n : CallNext} {h : Bool} {s : CallStep} → isSession b ≡ true → N n → s ≡ step (sessionIn b .st) h (layBefore Before.None) n → Quiet N b b h s
+still k n e = rw e (record { next = n; held = record { known = k; back = refl }; heard = refl; clear = refl; lay = refl })
+
+pub changed : {N : CallNext → Type 0} {b d : List ℕ} {t : State} {n : CallNext} {h : Bool} {s : CallStep} → Holds d (withState b t) → N n → s ≡ step t h (layBefore Before.None) n → Quiet N b d h s
+changed k n e = rw e (record { next = n; held = k; heard = refl; clear = refl; lay = refl })
+
+-- the poll's value, as where it stands
+pub over-now : {b d : List ℕ} {v : ℕ} {s : CallStep} (r : PollNow) → r .kind ≡ NowKind.Over → r .number ≡ v → Reports b d v s → Quiets b d r s
+over-now {b} {d} {v} {s} r k e q = record { next = ended r (s .next) k e (q .next); held = q .held; heard = q .heard; clear = q .clear; lay = q .lay }
+
+-- the state alone changed, so what is kept gives the same
+pub front-kept : (u b : List ℕ) {d : List ℕ} (t : State) → Kept u → isSession b ≡ true → Holds d (withState b t) → backSession u d ≡ backSession u b
+front-kept u b {d} t k h s = front-changed d b k (session-length d (s .known)) (session-length b h) (records-kept b h t s)
+
+pub quiet-moved : {b c d : List ℕ} {t : State} {N : CallNext → Type 0} {h : Bool} (f : State → CallStep) → Holds c (withState b t) → Quiet N c d h (f (sessionIn c .st)) → Quiet N b d h (f t)
+quiet-moved {b} {c} {d} {t} {N} {h} f k q =
+    let e : sessionIn c .st ≡ t = ap (λ (s : Session). s .st) (k .back) in
+    let g : Quiet N c d h (f t) = rw e at q in
+    record { next = g .next; held = record { known = g .held .known; back = rw (k .back) at (g .held .back) }; heard = g .heard; clear = g .clear; lay = g .lay }
+
+pub quiet-stepped : {u b d : List ℕ} {r : PollNow} {s : CallStep} (e : AsyncEvent) → Kept u → isSession b ≡ true → Quiets b d r s → Stepped u u b d r e s
+unfolding listAt listHeard
+quiet-stepped {u} {b} {d} {r} {s} e k h q =
+    record {
+      next = q .next;
+      held = rw (q .heard, q .clear) (q .held);
+      kept = record { kept = k; count = refl; buf = λ x. refl; session = front-kept u b (s .st) k h (q .held) };
+      lay = q .lay;
+    }
+
+-- after an event of a declared length
+pub heard-stepped : {u v b c d : List ℕ} {r : PollNow} (e : AsyncEvent) (n : ℕ) → Holds c (handledSession b e n) → KeptFor u v b c
+    → ((h : Bool) → Quiet (NextIs r) c d h (to.pollingStep (sessionIn c .st) h)) → d ≡ c → Stepped u v b d r e (to.pollingStep (handledOf (sessionIn b .st) n e .st) (handledOf (sessionIn b .st) n e .heard))
+unfolding listAt handledSession to.pollingStep
+heard-stepped {u} {v} {b} {c} {d} {r} e n k kf q ed =
+    let es : sessionIn c .st ≡ handledOf (sessionIn b .st) n e .st = ap (λ (s : Session). s .st) (k .back) in
+    let g = q (handledOf (sessionIn b .st) n e .heard) in
+    record { next = rw es at (g .next); held = rw ed k; kept = rw ed kf; lay = refl }
+
+-- the device's poll changed the state before
+pub stepped-moved : {u v b c d : List ℕ} {t : State} {r : PollNow} (e : AsyncEvent) (f : State → CallStep) → Kept u → isSession b ≡ true → Holds c (withState b t) → Stepped u v c d r e (f (sessionIn c .st)) → Stepped u v b d r e (f t)
+stepped-moved {u} {v} {b} {c} {d} {t} {r} e f k h m q =
+    let es : sessionIn c .st ≡ t = ap (λ (s : Session). s .st) (m .back) in
+    let el : sessionIn c .list ≡ sessionIn b .list = ap (λ (s : Session). s .list) (m .back) in
+    let g : Stepped u v c d r e (f t) = rw es at q in
+    record {
+      next = g .next;
+      held = record { known = g .held .known; back = rw el at (g .held .back) };
+      kept = record { kept = g .kept .kept; count = g .kept .count; buf = g .kept .buf; session = g .kept .session ∙ front-kept u b t k h m };
+      lay = g .lay;
+    }

@@ -1,0 +1,213 @@
+// `poll` on a session's bytes: what it does with an answer. buf has what the answer left.
+use arriving::handle_async_event;
+use handling::link::released;
+use places::read::failure_at;
+use places::read::link_at;
+use places::read::tick_at;
+use places::read::wifi_at;
+use places::write::put_failure;
+use places::write::put_frame;
+use places::write::put_link;
+use receive::polled::PollAt;
+use receive::polled::PollKind;
+use receive::polled::Polled;
+use receive::polled::PolledKind;
+use receive::polled::poll_device;
+use receive::polled::poll_from;
+use receive::stored::store_reply;
+use send::elapsed_us;
+use wlan::ConnectFailure;
+use wlan::PendingBuf;
+use wlan::PendingRx;
+use wlan::StartedTick;
+use wlan::WifiState;
+ghost use mathlib.Core.Path.{_≡_};
+ghost use mathlib.Core.Bool.{Bool, true};
+ghost use lib.ListN.{length};
+ghost use Rattle.wlan.specs.declared.AsyncEvent.{AsyncEvent};
+ghost use Rattle.wlan.specs.declared.BusAnswer.{BusAnswer};
+ghost use Rattle.device.specs.Poll.{pollOp};
+ghost use Rattle.device.specs.Meaning.{arrivalAt, Tells};
+ghost use Rattle.control.specs.Poll as to;
+ghost use Rattle.session_bytes.specs.Session.{isSession, sessionIn, withState};
+ghost use Rattle.places.specs.Places.{Holds};
+ghost use Rattle.receive.specs.Receive.{pointOf, nextOf};
+ghost use Rattle.undo.specs.Undo.{Kept};
+ghost use Rattle.polls.specs.declared.NowKind as now;
+ghost use Rattle.polls.specs.Polls as at;
+
+pub enum NowKind {
+    Ask,
+    Tick,
+    Over,
+    HeaderBeyond,
+}
+
+// Where a poll stands: at an operation of the device's poll, at the tick (number: the disconnect began at this one), or at its end
+// (number: its value).
+pub struct PollNow {
+    pub kind: NowKind,
+    pub at: PollAt,
+    pub number: u64,
+}
+
+fn now_at(kind: NowKind, n: u64) -> PollNow
+    ensures { λ r. ⌜ (r .kind ≡ kind) × (r .number ≡ n) ⌝ }
+{
+    PollNow {
+        kind: kind,
+        at: PollAt {
+            kind: PollKind::Interrupt,
+            n: 0,
+        },
+        number: n,
+    }
+}
+
+fn asks(p: PollAt) -> PollNow
+    ensures { λ r. ⌜ (r .kind ≡ now.NowKind.Ask) × (r .at ≡ p) ⌝ }
+{
+    PollNow {
+        kind: NowKind::Ask,
+        at: p,
+        number: 0,
+    }
+}
+
+// A poll of the device begins.
+pub fn polling(s: &[u8]) -> PollNow
+    requires { ⌜ isSession (now s) ≡ true ⌝ }
+    ensures { λ r. ⌜ ((h : Bool) → at.Quiet (at.NextIs r) (now (s .entry)) (now (s .entry)) h (to.pollingStep (sessionIn (now (s .entry)) .st) h)) ⌝ }
+{
+    asks(poll_from(s))
+}
+
+// In Down a failure is reported once.
+fn report_down(s: &mut [u8]) -> u64
+    requires { ⌜ isSession (now s) ≡ true ⌝ }
+    ensures { λ r. ⌜ at.Reports (now (s .entry)) (now (s .exit)) r (to.downReport (sessionIn (now (s .entry)) .st) (sessionIn (now (s .entry)) .st .link .«connect_failure»)) ⌝ }
+{
+    let f = failure_at(s);
+    match f {
+        ConnectFailure::None => 0,
+        ConnectFailure::Some(_) => {
+            put_failure(s, ConnectFailure::None);
+            2
+        }
+    }
+}
+
+// The poll's value at its end.
+fn report(s: &mut [u8]) -> u64
+    requires { ⌜ isSession (now s) ≡ true ⌝ }
+    ensures { λ r. ⌜ at.Reports (now (s .entry)) (now (s .exit)) r (to.reportStep (sessionIn (now (s .entry)) .st)) ⌝ }
+{
+    let state = wifi_at(s);
+    match state {
+        WifiState::Down => report_down(s),
+        WifiState::Connecting => 0,
+        WifiState::Connected => 0,
+        WifiState::Disconnecting => 0,
+    }
+}
+
+fn disconnecting(s: &mut [u8]) -> PollNow
+    requires { ⌜ isSession (now s) ≡ true ⌝ }
+    ensures { λ r. ⌜ at.Quiets (now (s .entry)) (now (s .exit)) r (to.tickStep (sessionIn (now (s .entry)) .st) (sessionIn (now (s .entry)) .st .link .«disconnect_started_tick»)) ⌝ }
+{
+    let t = tick_at(s);
+    match t {
+        StartedTick::None => now_at(NowKind::Over, report(s)),
+        StartedTick::Some(n) => now_at(NowKind::Tick, n),
+    }
+}
+
+// Nothing more is there.
+fn nothing(s: &mut [u8]) -> PollNow
+    requires { ⌜ isSession (now s) ≡ true ⌝ }
+    ensures { λ r. ⌜ at.Quiets (now (s .entry)) (now (s .exit)) r (to.nothingStep (sessionIn (now (s .entry)) .st)) ⌝ }
+{
+    let state = wifi_at(s);
+    match state {
+        WifiState::Down => now_at(NowKind::Over, report(s)),
+        WifiState::Connecting => now_at(NowKind::Over, report(s)),
+        WifiState::Connected => now_at(NowKind::Over, report(s)),
+        WifiState::Disconnecting => disconnecting(s),
+    }
+}
+
+// A frame below 14 bytes is dropped.
+fn frame(s: &mut [u8], offset: u16, len: u16) -> PollNow
+    requires { ⌜ isSession (now s) ≡ true ⌝ }
+    ensures { λ r. ⌜ at.Quiets (now (s .entry)) (now (s .exit)) r (to.frameStep (sessionIn (now (s .entry)) .st) offset len) ⌝ }
+{
+    if len < 14 {
+        return polling(s);
+    }
+    put_frame(
+        s,
+        PendingRx::Some(PendingBuf {
+            offset: offset,
+            len: len,
+        }),
+    );
+    now_at(NowKind::Over, 1)
+}
+
+// What the device's poll came to.
+fn polled(s: &mut [u8], undo: &mut [u8], buf: &[u8], r: Polled) -> PollNow
+    requires { ⌜ isSession (now s) ≡ true ⌝ }
+    requires { ⌜ Kept (now undo) ⌝ }
+    requires { ⌜ length (now buf) ≡ 2048 ⌝ }
+    ensures { λ x. ⌜ ((e : AsyncEvent) → Tells (now (buf .entry)) e (nextOf r) → at.Stepped (now (undo .entry)) (now (undo .exit)) (now (s .entry)) (now (s .exit)) x e (to.nextStep (sessionIn (now (s .entry)) .st) e (nextOf r))) ⌝ }
+{
+    let k = r.kind;
+    let p = r.at;
+    let offset = r.offset;
+    let len = r.len;
+    match k {
+        PolledKind::Ask => asks(p),
+        PolledKind::None => nothing(s),
+        PolledKind::Control => {
+            store_reply(s, offset, len, r.status);
+            polling(s)
+        }
+        PolledKind::AsyncEvent => {
+            handle_async_event(s, undo, buf, offset, len);
+            polling(s)
+        }
+        PolledKind::Data => frame(s, offset, len),
+        PolledKind::HeaderBeyond => now_at(NowKind::HeaderBeyond, 0),
+    }
+}
+
+// The value of an answer to the operation at p.
+pub fn poll_answer(s: &mut [u8], undo: &mut [u8], buf: &[u8], p: PollAt, v: u64) -> PollNow
+    requires { ⌜ isSession (now s) ≡ true ⌝ }
+    requires { ⌜ Kept (now undo) ⌝ }
+    requires { ⌜ length (now buf) ≡ 2048 ⌝ }
+    ensures { λ x. ⌜ at.Stepped (now (undo .entry)) (now (undo .exit)) (now (s .entry)) (now (s .exit)) x (arrivalAt (pollOp (pointOf p)) (now (buf .entry)) (sessionIn (now (s .entry)) .st .sdpcm) .event) (to.pollPoint (sessionIn (now (s .entry)) .st) (pointOf p) (BusAnswer.Value v) (arrivalAt (pollOp (pointOf p)) (now (buf .entry)) (sessionIn (now (s .entry)) .st .sdpcm))) ⌝ }
+{
+    let r = poll_device(s, p, v, buf);
+    polled(s, undo, buf, r)
+}
+
+// A disconnect is over after 1,000 ticks.
+fn timed_out(s: &mut [u8], started: u64, tick: u64)
+    requires { ⌜ isSession (now s) ≡ true ⌝ }
+    ensures { λ _. ⌜ Holds (now (s .exit)) (withState (now (s .entry)) (to.timedOutState (sessionIn (now (s .entry)) .st) started tick)) ⌝ }
+{
+    if elapsed_us(started, tick) < 1000 {
+        return;
+    }
+    put_link(s, released(link_at(s)));
+}
+
+// The tick is t; the poll's value.
+pub fn poll_tick(s: &mut [u8], started: u64, t: u64) -> u64
+    requires { ⌜ isSession (now s) ≡ true ⌝ }
+    ensures { λ r. ⌜ at.Reports (now (s .entry)) (now (s .exit)) r (to.pollTick (sessionIn (now (s .entry)) .st) started (BusAnswer.Value t)) ⌝ }
+{
+    timed_out(s, started, t);
+    report(s)
+}

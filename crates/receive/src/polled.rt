@@ -1,0 +1,240 @@
+// An answer to a poll of the device, on a session's bytes; buf has what it left. What is handed on is flat, a kind beside plain numbers:
+// a compiler keeps that in registers.
+use places::read::sdpcm_at;
+use places::write::put_sdpcm;
+use rx::sdpcm_process_rx_packet;
+use sdpcm::header::blank;
+use sdpcm::status::f2_available;
+use sdpcm::status::has_packet;
+use sdpcm::status::pending;
+use sdpcm::status::unreadable;
+use wlan::Interface;
+use wlan::Received;
+use wlan::SdpcmPacket;
+use wlan::setters::set_mark;
+ghost use mathlib.Core.Path.{_≡_};
+ghost use mathlib.Core.Bool.{true, false};
+ghost use Rattle.wlan.specs.State.{setMark};
+ghost use Rattle.wlan.specs.declared.BusAnswer.{BusAnswer};
+ghost use Rattle.wlan.specs.declared.Sdpcm.{Sdpcm};
+ghost use Rattle.wlan.specs.declared.SdpcmPacket as packet;
+ghost use Rattle.device.specs.declared.PollNext as next;
+ghost use Rattle.device.specs.Poll as to;
+ghost use Rattle.device.specs.Meaning.{arrivalOf};
+ghost use Rattle.session_bytes.specs.Session.{isSession, sessionIn};
+ghost use Rattle.receive.specs.Receive as at;
+
+pub enum PollKind {
+    Interrupt,
+    Acknowledge,
+    Status,
+    Waited,
+    FrameControl,
+    Packet,
+}
+
+// Where a poll of the device waits. n: the interrupt to write back, how many status reads are left, or the packet's length.
+pub struct PollAt {
+    pub kind: PollKind,
+    pub n: u16,
+}
+
+pub enum PolledKind {
+    Ask,
+    None,
+    Control,
+    AsyncEvent,
+    Data,
+    HeaderBeyond,
+}
+
+// What an answer comes to: the next operation, a packet or none, or refusal 10.
+pub struct Polled {
+    pub kind: PolledKind,
+    pub at: PollAt,
+    pub offset: u16,
+    pub len: u16,
+    pub status: i32,
+    pub interface: Interface,
+}
+
+fn ask(kind: PollKind, n: u16) -> Polled
+    ensures { λ r. ⌜ at.nextOf r ≡ next.PollNext.Ask (at.pointBy kind n) ⌝ }
+{
+    Polled {
+        kind: PolledKind::Ask,
+        at: PollAt { kind: kind, n: n },
+        offset: 0,
+        len: 0,
+        status: 0,
+        interface: Interface::Sta,
+    }
+}
+
+fn came(kind: PolledKind, offset: u16, len: u16, status: i32, interface: Interface) -> Polled
+    ensures { λ r. ⌜ r ≡ at.cameBy kind offset len status interface ⌝ }
+{
+    Polled {
+        kind: kind,
+        at: PollAt {
+            kind: PollKind::Interrupt,
+            n: 0,
+        },
+        offset: offset,
+        len: len,
+        status: status,
+        interface: interface,
+    }
+}
+
+fn none() -> Polled
+    ensures { λ r. ⌜ at.nextOf r ≡ next.PollNext.Got packet.SdpcmPacket.None ⌝ }
+{
+    came(PolledKind::None, 0, 0, 0, Interface::Sta)
+}
+
+// Without an earlier good packet the interrupt comes first.
+pub fn poll_from(s: &[u8]) -> PollAt
+    requires { ⌜ isSession (now s) ≡ true ⌝ }
+    ensures { λ r. ⌜ at.pointOf r ≡ to.pollStart (sessionIn (now (s .entry)) .st .sdpcm) ⌝ }
+{
+    let t = sdpcm_at(s);
+    if t.had_successful_packet {
+        PollAt {
+            kind: PollKind::Status,
+            n: 999,
+        }
+    } else {
+        PollAt {
+            kind: PollKind::Interrupt,
+            n: 0,
+        }
+    }
+}
+
+fn acknowledged(v: u16) -> Polled
+    ensures { λ r. ⌜ ((s : Sdpcm) → to.step s (at.nextOf r) ≡ to.acknowledged s v) ⌝ }
+{
+    if f2_available(v) {
+        ask(PollKind::Status, 999)
+    } else {
+        none()
+    }
+}
+
+fn interrupt_read(v: u16) -> Polled
+    ensures { λ r. ⌜ ((s : Sdpcm) → to.step s (at.nextOf r) ≡ to.interruptStep s v) ⌝ }
+{
+    if v == 0 {
+        acknowledged(v)
+    } else {
+        ask(PollKind::Acknowledge, v)
+    }
+}
+
+fn waited(left: u16) -> Polled
+    ensures { λ r. ⌜ ((s : Sdpcm) → to.step s (at.nextOf r) ≡ to.waited s left) ⌝ }
+{
+    if left == 0 {
+        none()
+    } else {
+        ask(PollKind::Status, left - 1)
+    }
+}
+
+// The mark is cleared; no packet.
+fn unmarked(s: &mut [u8]) -> Polled
+    requires { ⌜ isSession (now s) ≡ true ⌝ }
+    ensures { λ r. ⌜ at.Polls (now (s .entry)) (now (s .exit)) r (to.step (setMark (sessionIn (now (s .entry)) .st .sdpcm) false) (next.PollNext.Got packet.SdpcmPacket.None)) ⌝ }
+{
+    put_sdpcm(s, set_mark(sdpcm_at(s), false));
+    none()
+}
+
+fn by_status(s: &mut [u8], v: u32) -> Polled
+    requires { ⌜ isSession (now s) ≡ true ⌝ }
+    ensures { λ r. ⌜ at.Polls (now (s .entry)) (now (s .exit)) r (to.statusStep (sessionIn (now (s .entry)) .st .sdpcm) v) ⌝ }
+{
+    if has_packet(v) {
+        if unreadable(v) {
+            ask(PollKind::FrameControl, 0)
+        } else {
+            ask(PollKind::Packet, pending(v))
+        }
+    } else {
+        unmarked(s)
+    }
+}
+
+fn status_read(s: &mut [u8], left: u16, v: u32) -> Polled
+    requires { ⌜ isSession (now s) ≡ true ⌝ }
+    ensures { λ r. ⌜ at.Polls (now (s .entry)) (now (s .exit)) r (to.readStep (sessionIn (now (s .entry)) .st .sdpcm) left v) ⌝ }
+{
+    if v == 0xffff_ffff {
+        ask(PollKind::Waited, left)
+    } else {
+        by_status(s, v)
+    }
+}
+
+fn got(p: SdpcmPacket) -> Polled
+    ensures { λ r. ⌜ at.nextOf r ≡ next.PollNext.Got p ⌝ }
+{
+    match p {
+        SdpcmPacket::None => none(),
+        SdpcmPacket::Control {
+            offset,
+            len,
+            status,
+        } => came(PolledKind::Control, offset, len, status, Interface::Sta),
+        SdpcmPacket::AsyncEvent { offset, len } => {
+            came(PolledKind::AsyncEvent, offset, len, 0, Interface::Sta)
+        }
+        SdpcmPacket::Data {
+            offset,
+            len,
+            interface,
+        } => came(PolledKind::Data, offset, len, 0, interface),
+    }
+}
+
+fn received(p: Received) -> Polled
+    ensures { λ r. ⌜ ((s : Sdpcm) → to.step s (at.nextOf r) ≡ to.gotStep s p) ⌝ }
+{
+    match p {
+        Received::Packet(k) => got(k),
+        Received::HeaderBeyond => came(PolledKind::HeaderBeyond, 0, 0, 0, Interface::Sta),
+    }
+}
+
+// A packet was read.
+fn arrived(s: &mut [u8], n: u16, buf: &[u8]) -> Polled
+    requires { ⌜ isSession (now s) ≡ true ⌝ }
+    ensures { λ r. ⌜ at.Polls (now (s .entry)) (now (s .exit)) r (to.arrivedStep (sessionIn (now (s .entry)) .st .sdpcm) (arrivalOf n (now (buf .entry)) (sessionIn (now (s .entry)) .st .sdpcm))) ⌝ }
+{
+    if blank(buf) {
+        return unmarked(s);
+    }
+    let rx = sdpcm_process_rx_packet(n, buf, set_mark(sdpcm_at(s), true));
+    let t = rx.sdpcm;
+    let p = rx.received;
+    put_sdpcm(s, t);
+    received(p)
+}
+
+// The value of an answer to the operation at p.
+pub fn poll_device(s: &mut [u8], p: PollAt, v: u64, buf: &[u8]) -> Polled
+    requires { ⌜ isSession (now s) ≡ true ⌝ }
+    ensures { λ r. ⌜ at.Polls (now (s .entry)) (now (s .exit)) r (at.polledAt (sessionIn (now (s .entry)) .st .sdpcm) (at.pointOf p) (BusAnswer.Value v) (now (buf .entry))) ⌝ }
+{
+    let k = p.kind;
+    let n = p.n;
+    match k {
+        PollKind::Interrupt => interrupt_read((v % 65536) as u16),
+        PollKind::Acknowledge => acknowledged(n),
+        PollKind::Status => status_read(s, n, (v % 4294967296) as u32),
+        PollKind::Waited => waited(n),
+        PollKind::FrameControl => unmarked(s),
+        PollKind::Packet => arrived(s, n, buf),
+    }
+}

@@ -1,0 +1,392 @@
+// `send_data` over its recording, on a session's bytes.
+pub mod asks;
+
+use crate::asks::send_ask;
+use asking::Asked;
+use asking::ask_status;
+use asking::ask_write;
+use receive::polled::PollAt;
+use receive::polled::PollKind;
+use sdpcm::header::put_data;
+use sdpcm::status::f2_ready;
+use send::OutPacket;
+use sending::SendAt;
+use sending::SendKind;
+use sending::SendNow;
+use sending::SentKind;
+use sending::send_answer;
+use sending::send_start;
+use turning::RunEnd;
+use turning::back_end;
+use turning::error_end;
+use turning::fault_end;
+use turning::is_back;
+use turning::value_end;
+use undo::keep;
+ghost use mathlib.Core.Path.{_≡_};
+ghost use mathlib.Core.Bool.{true, false};
+ghost use mathlib.Core.List.{List, []};
+ghost use Prim.Native.Nat.{ℕ, _≤_, _<_};
+ghost use lib.ListN.{length, drop};
+ghost use Rattle.slices.specs.Over.{over};
+ghost use Rattle.wlan.specs.declared.BusAnswer.{BusAnswer};
+ghost use Rattle.definition.specs.Bus.{Ans, Bytes};
+ghost use Rattle.definition.specs.Event.{eventOf};
+ghost use Rattle.definition.specs.Packet.{dataPart};
+ghost use Rattle.definition.specs.Prog.{World};
+ghost use Rattle.device.specs.Meaning.{told, landing, InRange};
+ghost use Rattle.definition.specs.Run.{End};
+ghost use Rattle.send.specs.declared.SendPoint.{SendPoint};
+ghost use Rattle.send.specs.Send.{sendOp};
+ghost use Rattle.control.specs.declared.CallPoint as point;
+ghost use Rattle.control.specs.Meaning.{callShown, callTree, Kc};
+ghost use Rattle.session_bytes.specs.Session.{isSession};
+ghost use Rattle.turn.specs.Onward.{go};
+ghost use Rattle.undo.specs.Undo.{Kept};
+ghost use Rattle.asking.specs.Asking.{Asks, Grew};
+ghost use Rattle.sending.specs.Sending.{Covered, pointOf};
+ghost use Rattle.turning.specs.Turning as turning;
+ghost use Rattle.send_call.specs.SendCall as to;
+
+// A turn goes on at an operation of the send, or the send is over. end.len: how many words are in the log.
+pub struct SendTurned {
+    pub on: bool,
+    pub at: SendAt,
+    pub pos: usize,
+    pub end: RunEnd,
+}
+
+fn over(end: RunEnd) -> SendTurned
+    ensures { λ r. ⌜ (r .on ≡ false) × (r .end ≡ end) ⌝ }
+{
+    SendTurned {
+        on: false,
+        at: SendAt {
+            kind: SendKind::First,
+            at: PollAt {
+                kind: PollKind::Interrupt,
+                n: 0,
+            },
+            t0: 0,
+            left: 0,
+            n: 0,
+        },
+        pos: 0,
+        end: end,
+    }
+}
+
+fn onward(p: SendAt, pos: usize, len: usize) -> SendTurned
+    ensures { λ r. ⌜ (r .on ≡ true) × (r .at ≡ p) × (r .pos ≡ pos) × (r .end .len ≡ len) ⌝ }
+{
+    SendTurned {
+        on: true,
+        at: p,
+        pos: pos,
+        end: value_end(0, len),
+    }
+}
+
+// From where a send stands.
+fn send_now(n: SendNow, pos: usize, len: usize) -> SendTurned
+    ensures on { λ r. ⌜ ((frame : Bytes) (e : World) (rec log s : List ℕ) (buf : Bytes) → to.Turns frame e (go e (drop pos rec) log len (callTree (to.argsIn frame) (to.callNow n) (turning.worldIn s buf))) rec r log s buf) ⌝ }
+    ensures grew { λ r. ⌜ (r .on ≡ true → r .end .len ≡ len) ⌝ }
+{
+    let k = n.kind;
+    let p = n.at;
+    let x = n.error;
+    match k {
+        SentKind::Ask => onward(p, pos, len),
+        SentKind::Sent => over(value_end(0, len)),
+        SentKind::Refused => over(error_end(x, len)),
+    }
+}
+
+fn out_of(size: u16) -> OutPacket
+    ensures { λ r. ⌜ r ≡ to.outOf size ⌝ }
+{
+    OutPacket {
+        channel: 2,
+        size: size,
+    }
+}
+
+// The value of an answer to the operation at p. buf has what it left.
+fn send_valued(
+    size: u16,
+    p: SendAt,
+    v: u64,
+    pos: usize,
+    len: usize,
+    s: &mut [u8],
+    undo: &mut [u8],
+    buf: &mut [u8],
+) -> SendTurned
+    requires { ⌜ isSession (now s) ≡ true ⌝ }
+    requires { ⌜ Kept (now undo) ⌝ }
+    requires { ⌜ length (now buf) ≡ 2048 ⌝ }
+    ensures on { λ r. ⌜ ((frame : Bytes) (y : Ans) (b : Bytes) → to.Sized frame size → BusAnswer.Value v ≡ told y → InRange (sendOp (pointOf p)) y → now (buf .entry) ≡ landing (sendOp (pointOf p)) y b → (e : World) (rec log : List ℕ) → to.Turns frame e (go e (drop pos rec) log len (Kc (to.argsIn frame) (point.CallPoint.Send (pointOf p)) y (turning.worldIn (now (s .entry)) b))) rec r log (now (s .exit)) (now (buf .exit))) ⌝ }
+    ensures held { λ _. ⌜ isSession (now (s .exit)) ≡ true ⌝ }
+    ensures kept { λ _. ⌜ turning.KeptAll (now (undo .entry)) (now (undo .exit)) (now (s .entry)) (now (s .exit)) (now (buf .entry)) (now (buf .exit)) ⌝ }
+    ensures grew { λ r. ⌜ (r .on ≡ true → r .end .len ≡ len) ⌝ }
+{
+    let n = send_answer(s, undo, buf, out_of(size), p, v);
+    send_now(n, pos, len)
+}
+
+// What the operation at p was answered.
+fn send_asked(
+    size: u16,
+    p: SendAt,
+    a: Asked,
+    s: &mut [u8],
+    undo: &mut [u8],
+    buf: &mut [u8],
+) -> SendTurned
+    requires { ⌜ isSession (now s) ≡ true ⌝ }
+    requires { ⌜ Kept (now undo) ⌝ }
+    requires { ⌜ length (now buf) ≡ 2048 ⌝ }
+    ensures on { λ r. ⌜ ((frame : Bytes) (rec log₀ log : List ℕ) (pos len : ℕ) (b : Bytes) → to.Sized frame size → Asks (sendOp (pointOf p)) rec log₀ log pos len b (now (buf .entry)) a → (e : World) → to.Turns frame e (go e (drop pos rec) log₀ len (callTree (to.argsIn frame) (to.asksAt p) (turning.worldIn (now (s .entry)) b))) rec r log (now (s .exit)) (now (buf .exit))) ⌝ }
+    ensures held { λ _. ⌜ isSession (now (s .exit)) ≡ true ⌝ }
+    ensures kept { λ _. ⌜ turning.KeptAll (now (undo .entry)) (now (undo .exit)) (now (s .entry)) (now (s .exit)) (now (buf .entry)) (now (buf .exit)) ⌝ }
+    ensures grew { λ r. ⌜ ((room len : ℕ) → Grew room len a → r .on ≡ true → (len < r .end .len) × (r .end .len ≤ room)) ⌝ }
+{
+    if is_back(a) {
+        return over(back_end(a));
+    }
+    if a.fault {
+        return over(fault_end(a.value, a.len));
+    }
+    send_valued(size, p, a.value, a.pos, a.len, s, undo, buf)
+}
+
+// One operation, its answer, and what follows.
+fn send_turn(
+    size: u16,
+    p: SendAt,
+    pos: usize,
+    len: usize,
+    s: &mut [u8],
+    undo: &mut [u8],
+    rec: &[u32],
+    log: &mut [u32],
+    buf: &mut [u8],
+) -> SendTurned
+    requires { ⌜ isSession (now s) ≡ true ⌝ }
+    requires { ⌜ Kept (now undo) ⌝ }
+    requires { ⌜ length (now buf) ≡ 2048 ⌝ }
+    ensures on { λ r. ⌜ ((frame : Bytes) → to.Sized frame size → (e : World) → to.Turns frame e (go e (drop pos (now (rec .entry))) (now (log .entry)) len (callTree (to.argsIn frame) (to.asksAt p) (turning.worldIn (now (s .entry)) (now (buf .entry))))) (now (rec .entry)) r (now (log .exit)) (now (s .exit)) (now (buf .exit))) ⌝ }
+    ensures held { λ _. ⌜ isSession (now (s .exit)) ≡ true ⌝ }
+    ensures kept { λ _. ⌜ turning.KeptAll (now (undo .entry)) (now (undo .exit)) (now (s .entry)) (now (s .exit)) (now (buf .entry)) (now (buf .exit)) ⌝ }
+    ensures grew { λ r. ⌜ (r .on ≡ true → (len < r .end .len) × (r .end .len ≤ length (now (log .entry)))) ⌝ }
+{
+    let a = send_ask(p, pos, len, undo, rec, log, buf);
+    send_asked(size, p, a, s, undo, buf)
+}
+
+// The frame is laid behind the header's place, and the bytes there are kept.
+fn lay_frame(interface: u8, frame: &[u8], undo: &mut [u8], buf: &mut [u8])
+    requires { ⌜ Kept (now undo) ⌝ }
+    requires { ⌜ length (now buf) ≡ 2048 ⌝ }
+    requires { ⌜ length (now frame) ≤ 2030 ⌝ }
+    ensures laid { λ _. ⌜ now (buf .exit) ≡ over (now (buf .entry)) 12 (dataPart interface (now (frame .entry))) ⌝ }
+    ensures kept { λ _. ⌜ Covered (now (undo .entry)) (now (undo .exit)) (now (buf .entry)) (now (buf .exit)) ⌝ }
+{
+    keep(undo, buf, 18 + frame.len());
+    put_data(buf, interface, frame);
+}
+
+// From a turn on to the end.
+fn send_on(
+    size: u16,
+    first: SendTurned,
+    s: &mut [u8],
+    undo: &mut [u8],
+    rec: &[u32],
+    log: &mut [u32],
+    buf: &mut [u8],
+) -> RunEnd
+    requires { ⌜ isSession (now s) ≡ true ⌝ }
+    requires { ⌜ Kept (now undo) ⌝ }
+    requires { ⌜ length (now buf) ≡ 2048 ⌝ }
+    requires { ⌜ (first .on ≡ true → first .end .len ≤ length (now log)) ⌝ }
+    ensures on { λ r. ⌜ ((frame : Bytes) → to.Sized frame size → (e : World) (x : End) → to.Turns frame e x (now (rec .entry)) first (now (log .entry)) (now (s .entry)) (now (buf .entry)) → turning.Ends e x r (now (log .exit)) (now (s .exit)) (now (buf .exit))) ⌝ }
+    ensures held { λ _. ⌜ isSession (now (s .exit)) ≡ true ⌝ }
+    ensures kept { λ _. ⌜ turning.KeptAll (now (undo .entry)) (now (undo .exit)) (now (s .entry)) (now (s .exit)) (now (buf .entry)) (now (buf .exit)) ⌝ }
+{
+    let mut t = first;
+    while t.on {
+        let p = t.at;
+        let end = t.end;
+        t = send_turn(size, p, t.pos, end.len, s, undo, rec, log, buf);
+    }
+    let end = t.end;
+    end
+}
+
+// ---- a send that need not wait
+
+// The packet is written.
+fn write_end(n: u16, pos: usize, len: usize, rec: &[u32], log: &mut [u32], buf: &[u8]) -> RunEnd
+    ensures { λ r. ⌜ ((frame : Bytes) → length frame ≤ 2030 → (e : World) (s : List ℕ) → turning.Ends e (go e (drop pos (now (rec .entry))) (now (log .entry)) len (callTree (to.argsIn frame) (to.asksOf (SendPoint.Writing n)) (turning.worldIn s (now (buf .entry))))) r (now (log .exit)) s (now (buf .entry))) ⌝ }
+{
+    let a = ask_write(n, pos, len, rec, log, buf);
+    if is_back(a) {
+        return back_end(a);
+    }
+    if a.fault {
+        return fault_end(a.value, a.len);
+    }
+    value_end(0, a.len)
+}
+
+// The device is not ready yet.
+fn status_again(
+    size: u16,
+    p: SendAt,
+    v: u64,
+    pos: usize,
+    len: usize,
+    s: &mut [u8],
+    undo: &mut [u8],
+    rec: &[u32],
+    log: &mut [u32],
+    buf: &mut [u8],
+) -> RunEnd
+    requires { ⌜ isSession (now s) ≡ true ⌝ }
+    requires { ⌜ Kept (now undo) ⌝ }
+    requires { ⌜ length (now buf) ≡ 2048 ⌝ }
+    requires { ⌜ len ≤ length (now log) ⌝ }
+    ensures on { λ r. ⌜ ((frame : Bytes) (y : Ans) (b : Bytes) → to.Sized frame size → BusAnswer.Value v ≡ told y → InRange (sendOp (pointOf p)) y → now (buf .entry) ≡ landing (sendOp (pointOf p)) y b → (e : World) → turning.Ends e (go e (drop pos (now (rec .entry))) (now (log .entry)) len (Kc (to.argsIn frame) (point.CallPoint.Send (pointOf p)) y (turning.worldIn (now (s .entry)) b))) r (now (log .exit)) (now (s .exit)) (now (buf .exit))) ⌝ }
+    ensures held { λ _. ⌜ isSession (now (s .exit)) ≡ true ⌝ }
+    ensures kept { λ _. ⌜ turning.KeptAll (now (undo .entry)) (now (undo .exit)) (now (s .entry)) (now (s .exit)) (now (buf .entry)) (now (buf .exit)) ⌝ }
+{
+    let t = send_valued(size, p, v, pos, len, s, undo, buf);
+    send_on(size, t, s, undo, rec, log, buf)
+}
+
+// The status that was read.
+fn status_valued(
+    size: u16,
+    p: SendAt,
+    v: u64,
+    pos: usize,
+    len: usize,
+    s: &mut [u8],
+    undo: &mut [u8],
+    rec: &[u32],
+    log: &mut [u32],
+    buf: &mut [u8],
+) -> RunEnd
+    requires { ⌜ isSession (now s) ≡ true ⌝ }
+    requires { ⌜ Kept (now undo) ⌝ }
+    requires { ⌜ length (now buf) ≡ 2048 ⌝ }
+    requires { ⌜ len ≤ length (now log) ⌝ }
+    requires { ⌜ p .kind ≡ SendKind.Ready ⌝ }
+    ensures on { λ r. ⌜ ((frame : Bytes) (y : Ans) (b : Bytes) → to.Sized frame size → BusAnswer.Value v ≡ told y → InRange (sendOp (pointOf p)) y → now (buf .entry) ≡ landing (sendOp (pointOf p)) y b → (e : World) → turning.Ends e (go e (drop pos (now (rec .entry))) (now (log .entry)) len (Kc (to.argsIn frame) (point.CallPoint.Send (pointOf p)) y (turning.worldIn (now (s .entry)) b))) r (now (log .exit)) (now (s .exit)) (now (buf .exit))) ⌝ }
+    ensures held { λ _. ⌜ isSession (now (s .exit)) ≡ true ⌝ }
+    ensures kept { λ _. ⌜ turning.KeptAll (now (undo .entry)) (now (undo .exit)) (now (s .entry)) (now (s .exit)) (now (buf .entry)) (now (buf .exit)) ⌝ }
+{
+    if f2_ready((v % 4294967296) as u32) {
+        return write_end(p.n, pos, len, rec, log, buf);
+    }
+    status_again(size, p, v, pos, len, s, undo, rec, log, buf)
+}
+
+// The status is read once, and the packet written where the device is ready.
+fn status_end(
+    size: u16,
+    p: SendAt,
+    s: &mut [u8],
+    undo: &mut [u8],
+    rec: &[u32],
+    log: &mut [u32],
+    buf: &mut [u8],
+) -> RunEnd
+    requires { ⌜ isSession (now s) ≡ true ⌝ }
+    requires { ⌜ Kept (now undo) ⌝ }
+    requires { ⌜ length (now buf) ≡ 2048 ⌝ }
+    requires { ⌜ p .kind ≡ SendKind.Ready ⌝ }
+    ensures on { λ r. ⌜ ((frame : Bytes) → to.Sized frame size → (e : World) → turning.Ends e (go e (drop 0 (now (rec .entry))) (now (log .entry)) 0 (callTree (to.argsIn frame) (to.asksAt p) (turning.worldIn (now (s .entry)) (now (buf .entry))))) r (now (log .exit)) (now (s .exit)) (now (buf .exit))) ⌝ }
+    ensures held { λ _. ⌜ isSession (now (s .exit)) ≡ true ⌝ }
+    ensures kept { λ _. ⌜ turning.KeptAll (now (undo .entry)) (now (undo .exit)) (now (s .entry)) (now (s .exit)) (now (buf .entry)) (now (buf .exit)) ⌝ }
+{
+    let a = ask_status(0, 0, rec, log);
+    if is_back(a) {
+        return back_end(a);
+    }
+    if a.fault {
+        return fault_end(a.value, a.len);
+    }
+    status_valued(size, p, a.value, a.pos, a.len, s, undo, rec, log, buf)
+}
+
+fn is_ready(k: SendKind) -> bool
+    ensures { λ r. ⌜ r ≡ to.isReady k ⌝ }
+{
+    match k {
+        SendKind::First => false,
+        SendKind::Polling => false,
+        SendKind::Late => false,
+        SendKind::Waited => false,
+        SendKind::Ready => true,
+        SendKind::Writing => false,
+    }
+}
+
+// Its next operation is the status.
+fn need_not_wait(n: SendNow) -> bool
+    ensures { λ r. ⌜ (r ≡ true → (n .kind ≡ SentKind.Ask) × (n .at .kind ≡ SendKind.Ready)) ⌝ }
+{
+    let k = n.kind;
+    let p = n.at;
+    let q = p.kind;
+    match k {
+        SentKind::Ask => is_ready(q),
+        SentKind::Sent => false,
+        SentKind::Refused => false,
+    }
+}
+
+// ---- the call
+
+// The frame is laid, and the send begins.
+fn send_first(interface: u8, frame: &[u8], s: &mut [u8], undo: &mut [u8], buf: &mut [u8]) -> SendNow
+    requires { ⌜ isSession (now s) ≡ true ⌝ }
+    requires { ⌜ Kept (now undo) ⌝ }
+    requires { ⌜ length (now buf) ≡ 2048 ⌝ }
+    requires { ⌜ length (now frame) ≤ 2030 ⌝ }
+    ensures on { λ r. ⌜ callTree (to.argsIn (now (frame .entry))) (to.callNow r) (turning.worldIn (now (s .exit)) (now (buf .exit))) ≡ callShown (to.argsIn (now (frame .entry))) (to.startIn interface (now (frame .entry)) (now (s .entry))) (eventOf [] 0) (turning.worldIn (now (s .entry)) (now (buf .entry))) ⌝ }
+    ensures held { λ _. ⌜ isSession (now (s .exit)) ≡ true ⌝ }
+    ensures kept { λ _. ⌜ turning.KeptAll (now (undo .entry)) (now (undo .exit)) (now (s .entry)) (now (s .exit)) (now (buf .entry)) (now (buf .exit)) ⌝ }
+{
+    lay_frame(interface, frame, undo, buf);
+    send_start(s, undo, buf, out_of(18 + frame.len() as u16))
+}
+
+// From its beginning to its end.
+pub fn send_run(
+    interface: u8,
+    frame: &[u8],
+    s: &mut [u8],
+    undo: &mut [u8],
+    rec: &[u32],
+    log: &mut [u32],
+    buf: &mut [u8],
+) -> RunEnd
+    requires { ⌜ isSession (now s) ≡ true ⌝ }
+    requires { ⌜ Kept (now undo) ⌝ }
+    requires { ⌜ length (now buf) ≡ 2048 ⌝ }
+    requires { ⌜ length (now frame) ≤ 2030 ⌝ }
+    ensures on { λ r. ⌜ ((e : World) → turning.Ends e (go e (drop 0 (now (rec .entry))) (now (log .entry)) 0 (callShown (to.argsIn (now (frame .entry))) (to.startIn interface (now (frame .entry)) (now (s .entry))) (eventOf [] 0) (turning.worldIn (now (s .entry)) (now (buf .entry))))) r (now (log .exit)) (now (s .exit)) (now (buf .exit))) ⌝ }
+    ensures held { λ _. ⌜ isSession (now (s .exit)) ≡ true ⌝ }
+    ensures kept { λ _. ⌜ turning.KeptAll (now (undo .entry)) (now (undo .exit)) (now (s .entry)) (now (s .exit)) (now (buf .entry)) (now (buf .exit)) ⌝ }
+{
+    let size = 18 + frame.len() as u16;
+    let n = send_first(interface, frame, s, undo, buf);
+    if need_not_wait(n) {
+        let p = n.at;
+        return status_end(size, p, s, undo, rec, log, buf);
+    }
+    send_on(size, send_now(n, 0, 0), s, undo, rec, log, buf)
+}

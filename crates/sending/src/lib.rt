@@ -1,0 +1,324 @@
+// `sdpcm_send_common` on a session's bytes: its beginning, and its step at any point. buf has what an answer left; a header is laid
+// there at once, and kept before that.
+use arriving::handle_async_event;
+use places::read::sdpcm_at;
+use places::write::put_sdpcm;
+use receive::polled::PollAt;
+use receive::polled::PollKind;
+use receive::polled::Polled;
+use receive::polled::PolledKind;
+use receive::polled::poll_device;
+use receive::polled::poll_from;
+use receive::stored::store_reply;
+use sdpcm::header::next_seq;
+use sdpcm::header::put_header;
+use sdpcm::status::f2_ready;
+use send::OutPacket;
+use send::elapsed_us;
+use undo::keep;
+use wlan::DriverError;
+ghost use mathlib.Core.Path.{_≡_};
+ghost use mathlib.Core.Bool.{Bool, true};
+ghost use lib.ListN.{length, drop};
+ghost use Rattle.slices.specs.Over.{over};
+ghost use Rattle.wlan.specs.declared.AsyncEvent.{AsyncEvent};
+ghost use Rattle.wlan.specs.declared.BusAnswer.{BusAnswer};
+ghost use Rattle.wlan.specs.declared.State.{State};
+ghost use Rattle.definition.specs.Event.{eventOf};
+ghost use Rattle.definition.specs.Packet.{header};
+ghost use Rattle.definition.specs.Send.{free};
+ghost use Rattle.handling.specs.Handle.{handledOf};
+ghost use Rattle.device.specs.Poll.{pollOp};
+ghost use Rattle.device.specs.Meaning.{arrivalAt, Tells};
+ghost use Rattle.send.specs.declared.HeaderPut.{HeaderPut};
+ghost use Rattle.send.specs.declared.SendNext as next;
+ghost use Rattle.send.specs.Send as to;
+ghost use Rattle.session_bytes.specs.Session.{isSession, sessionIn};
+ghost use Rattle.receive.specs.Receive as poll;
+ghost use Rattle.undo.specs.Undo.{Kept};
+ghost use Rattle.sending.specs.Sending as at;
+
+pub enum SendKind {
+    First,
+    Polling,
+    Late,
+    Waited,
+    Ready,
+    Writing,
+}
+
+// Where a send waits. at: the operation of a stall's poll; t0: the clock at a stall's start; left: how many status reads are left; n: the
+// packet's length.
+pub struct SendAt {
+    pub kind: SendKind,
+    pub at: PollAt,
+    pub t0: u64,
+    pub left: u16,
+    pub n: u16,
+}
+
+pub enum SentKind {
+    Ask,
+    Sent,
+    Refused,
+}
+
+// What a step comes to: the next operation, the end, or a refusal.
+pub struct SendNow {
+    pub kind: SentKind,
+    pub at: SendAt,
+    pub error: DriverError,
+}
+
+fn asks(kind: SendKind, q: PollAt, t0: u64, left: u16, n: u16) -> SendNow
+    ensures { λ r. ⌜ ((h : HeaderPut) → at.nextOf r h ≡ next.SendNext.Ask h (at.pointBy kind q t0 left n)) ⌝ }
+{
+    SendNow {
+        kind: SentKind::Ask,
+        at: SendAt {
+            kind: kind,
+            at: q,
+            t0: t0,
+            left: left,
+            n: n,
+        },
+        error: DriverError::Io,
+    }
+}
+
+// A point outside a poll.
+fn waits(kind: SendKind, t0: u64, left: u16, n: u16) -> SendNow
+    ensures { λ r. ⌜ ((h : HeaderPut) → at.nextOf r h ≡ next.SendNext.Ask h (at.pointBy kind at.unpolled t0 left n)) ⌝ }
+{
+    asks(
+        kind,
+        PollAt {
+            kind: PollKind::Interrupt,
+            n: 0,
+        },
+        t0,
+        left,
+        n,
+    )
+}
+
+fn ended(kind: SentKind, e: DriverError) -> SendNow
+    ensures { λ r. ⌜ (r .kind ≡ kind) × (r .error ≡ e) ⌝ }
+{
+    SendNow {
+        kind: kind,
+        at: SendAt {
+            kind: SendKind::First,
+            at: PollAt {
+                kind: PollKind::Interrupt,
+                n: 0,
+            },
+            t0: 0,
+            left: 0,
+            n: 0,
+        },
+        error: e,
+    }
+}
+
+fn sent() -> SendNow
+    ensures { λ r. ⌜ ((h : HeaderPut) → at.nextOf r h ≡ next.SendNext.Sent) ⌝ }
+{
+    ended(SentKind::Sent, DriverError::Io)
+}
+
+fn refuse(e: DriverError) -> SendNow
+    ensures { λ r. ⌜ ((h : HeaderPut) → at.nextOf r h ≡ next.SendNext.Refused h e) ⌝ }
+{
+    ended(SentKind::Refused, e)
+}
+
+pub fn is_free(s: &[u8]) -> bool
+    requires { ⌜ isSession (now s) ≡ true ⌝ }
+    ensures { λ r. ⌜ r ≡ free (sessionIn (now (s .entry)) .st) ⌝ }
+{
+    let t = sdpcm_at(s);
+    if t.wlan_flow_control == 0 {
+        t.last_bus_data_credit != t.packet_tx_seq
+    } else {
+        false
+    }
+}
+
+// Lays a packet's header at the front of the work buffer, whose bytes there are kept.
+pub fn lay_header(undo: &mut [u8], buf: &mut [u8], size: u16, seq: u8, channel: u8)
+    requires { ⌜ Kept (now undo) ⌝ }
+    requires { ⌜ length (now buf) ≡ 2048 ⌝ }
+    ensures laid { λ _. ⌜ now (buf .exit) ≡ over (now (buf .entry)) 0 (header size seq channel) ⌝ }
+    ensures kept { λ _. ⌜ at.Covered (now (undo .entry)) (now (undo .exit)) (now (buf .entry)) (now (buf .exit)) ⌝ }
+{
+    keep(undo, buf, 12);
+    put_header(buf, size, seq, channel);
+}
+
+// The header is laid and the sequence number spent; a packet above 2,040 bytes goes no further.
+pub fn emit(s: &mut [u8], undo: &mut [u8], buf: &mut [u8], out: OutPacket) -> SendNow
+    requires { ⌜ isSession (now s) ≡ true ⌝ }
+    requires { ⌜ Kept (now undo) ⌝ }
+    requires { ⌜ length (now buf) ≡ 2048 ⌝ }
+    ensures { λ r. ⌜ ((h : Bool) → at.Emits (now (undo .entry)) (now (undo .exit)) (now (s .entry)) (now (s .exit)) (now (buf .entry)) (now (buf .exit)) r h (to.emitStep (sessionIn (now (s .entry)) .st) h out)) ⌝ }
+{
+    let t = sdpcm_at(s);
+    let size = out.size;
+    let spent = next_seq(t);
+    put_sdpcm(s, spent);
+    lay_header(undo, buf, size, t.packet_tx_seq, out.channel);
+    if 2040 < size {
+        return refuse(DriverError::InvalidArg);
+    }
+    waits(SendKind::Ready, 0, 999, (size + 3) / 4 * 4)
+}
+
+pub fn send_start(s: &mut [u8], undo: &mut [u8], buf: &mut [u8], out: OutPacket) -> SendNow
+    requires { ⌜ isSession (now s) ≡ true ⌝ }
+    requires { ⌜ Kept (now undo) ⌝ }
+    requires { ⌜ length (now buf) ≡ 2048 ⌝ }
+    ensures { λ r. ⌜ ((e : AsyncEvent) → at.Sends (now (undo .entry)) (now (undo .exit)) (now (s .entry)) (now (s .exit)) (now (buf .entry)) (now (buf .exit)) r e (to.startStep (sessionIn (now (s .entry)) .st) out)) ⌝ }
+{
+    if is_free(s) {
+        return emit(s, undo, buf, out);
+    }
+    waits(SendKind::First, 0, 0, 0)
+}
+
+// After a poll of a stall.
+fn test(s: &mut [u8], undo: &mut [u8], buf: &mut [u8], out: OutPacket, t0: u64) -> SendNow
+    requires { ⌜ isSession (now s) ≡ true ⌝ }
+    requires { ⌜ Kept (now undo) ⌝ }
+    requires { ⌜ length (now buf) ≡ 2048 ⌝ }
+    ensures { λ r. ⌜ ((h : Bool) → at.Emits (now (undo .entry)) (now (undo .exit)) (now (s .entry)) (now (s .exit)) (now (buf .entry)) (now (buf .exit)) r h (to.testStep (sessionIn (now (s .entry)) .st) h out t0)) ⌝ }
+{
+    if is_free(s) {
+        return emit(s, undo, buf, out);
+    }
+    waits(SendKind::Late, t0, 0, 0)
+}
+
+// A stall polls, from the beginning.
+fn polling(s: &[u8], t0: u64) -> SendNow
+    requires { ⌜ isSession (now s) ≡ true ⌝ }
+    ensures { λ r. ⌜ to.pollingStep (sessionIn (now (s .entry)) .st) t0 ≡ at.stays (sessionIn (now (s .entry)) .st) r ⌝ }
+{
+    asks(SendKind::Polling, poll_from(s), t0, 0, 0)
+}
+
+// A stall's poll brought an event of a declared length.
+fn stall_event(
+    s: &mut [u8],
+    undo: &mut [u8],
+    buf: &mut [u8],
+    out: OutPacket,
+    t0: u64,
+    offset: u16,
+    len: u16,
+) -> SendNow
+    requires { ⌜ isSession (now s) ≡ true ⌝ }
+    requires { ⌜ Kept (now undo) ⌝ }
+    requires { ⌜ length (now buf) ≡ 2048 ⌝ }
+    ensures { λ r. ⌜ ((e : AsyncEvent) → e ≡ eventOf (drop offset (now (buf .entry))) len → at.Sends (now (undo .entry)) (now (undo .exit)) (now (s .entry)) (now (s .exit)) (now (buf .entry)) (now (buf .exit)) r e (to.testStep (handledOf (sessionIn (now (s .entry)) .st) len e .st) (handledOf (sessionIn (now (s .entry)) .st) len e .heard) out t0)) ⌝ }
+{
+    handle_async_event(s, undo, buf, offset, len);
+    test(s, undo, buf, out, t0)
+}
+
+// What a stall's poll came to.
+fn stall_next(
+    s: &mut [u8],
+    undo: &mut [u8],
+    buf: &mut [u8],
+    out: OutPacket,
+    t0: u64,
+    r: Polled,
+) -> SendNow
+    requires { ⌜ isSession (now s) ≡ true ⌝ }
+    requires { ⌜ Kept (now undo) ⌝ }
+    requires { ⌜ length (now buf) ≡ 2048 ⌝ }
+    ensures { λ x. ⌜ ((e : AsyncEvent) → Tells (now (buf .entry)) e (poll.nextOf r) → at.Sends (now (undo .entry)) (now (undo .exit)) (now (s .entry)) (now (s .exit)) (now (buf .entry)) (now (buf .exit)) x e (to.stallNext (sessionIn (now (s .entry)) .st) out t0 e (poll.nextOf r))) ⌝ }
+{
+    let k = r.kind;
+    let q = r.at;
+    let offset = r.offset;
+    let len = r.len;
+    match k {
+        PolledKind::Ask => asks(SendKind::Polling, q, t0, 0, 0),
+        PolledKind::None => test(s, undo, buf, out, t0),
+        PolledKind::Control => {
+            store_reply(s, offset, len, r.status);
+            polling(s, t0)
+        }
+        PolledKind::AsyncEvent => stall_event(s, undo, buf, out, t0, offset, len),
+        PolledKind::Data => test(s, undo, buf, out, t0),
+        PolledKind::HeaderBeyond => refuse(DriverError::EventHeader),
+    }
+}
+
+fn stall_poll(
+    s: &mut [u8],
+    undo: &mut [u8],
+    buf: &mut [u8],
+    out: OutPacket,
+    t0: u64,
+    q: PollAt,
+    v: u64,
+) -> SendNow
+    requires { ⌜ isSession (now s) ≡ true ⌝ }
+    requires { ⌜ Kept (now undo) ⌝ }
+    requires { ⌜ length (now buf) ≡ 2048 ⌝ }
+    ensures { λ r. ⌜ at.Sends (now (undo .entry)) (now (undo .exit)) (now (s .entry)) (now (s .exit)) (now (buf .entry)) (now (buf .exit)) r (arrivalAt (pollOp (poll.pointOf q)) (now (buf .entry)) (sessionIn (now (s .entry)) .st .sdpcm) .event) (to.stallPoll (sessionIn (now (s .entry)) .st) out t0 (poll.pointOf q) (BusAnswer.Value v) (arrivalAt (pollOp (poll.pointOf q)) (now (buf .entry)) (sessionIn (now (s .entry)) .st .sdpcm))) ⌝ }
+{
+    let r = poll_device(s, q, v, buf);
+    stall_next(s, undo, buf, out, t0, r)
+}
+
+fn stall_late(t0: u64, t: u64) -> SendNow
+    ensures { λ r. ⌜ ((s : State) → to.lateStep s t0 t ≡ at.stays s r) ⌝ }
+{
+    if 1_000_000 < elapsed_us(t0, t) {
+        return refuse(DriverError::Timeout);
+    }
+    waits(SendKind::Waited, t0, 0, 0)
+}
+
+fn ready_read(left: u16, n: u16, v: u32) -> SendNow
+    ensures { λ r. ⌜ ((s : State) → to.readyStep s left n v ≡ at.stays s r) ⌝ }
+{
+    if f2_ready(v) {
+        return waits(SendKind::Writing, 0, 0, n);
+    }
+    if left == 0 {
+        return refuse(DriverError::Timeout);
+    }
+    waits(SendKind::Ready, 0, left - 1, n)
+}
+
+// The value of an answer to the operation at p.
+pub fn send_answer(
+    s: &mut [u8],
+    undo: &mut [u8],
+    buf: &mut [u8],
+    out: OutPacket,
+    p: SendAt,
+    v: u64,
+) -> SendNow
+    requires { ⌜ isSession (now s) ≡ true ⌝ }
+    requires { ⌜ Kept (now undo) ⌝ }
+    requires { ⌜ length (now buf) ≡ 2048 ⌝ }
+    ensures { λ r. ⌜ at.Sends (now (undo .entry)) (now (undo .exit)) (now (s .entry)) (now (s .exit)) (now (buf .entry)) (now (buf .exit)) r (arrivalAt (to.sendOp (at.pointOf p)) (now (buf .entry)) (sessionIn (now (s .entry)) .st .sdpcm) .event) (to.sendAnswer (sessionIn (now (s .entry)) .st) out (at.pointOf p) (BusAnswer.Value v) (arrivalAt (to.sendOp (at.pointOf p)) (now (buf .entry)) (sessionIn (now (s .entry)) .st .sdpcm))) ⌝ }
+{
+    let k = p.kind;
+    let q = p.at;
+    let t0 = p.t0;
+    match k {
+        SendKind::First => polling(s, v),
+        SendKind::Polling => stall_poll(s, undo, buf, out, t0, q, v),
+        SendKind::Late => stall_late(t0, v),
+        SendKind::Waited => polling(s, t0),
+        SendKind::Ready => ready_read(p.left, p.n, (v % 4294967296) as u32),
+        SendKind::Writing => sent(),
+    }
+}

@@ -1,0 +1,133 @@
+// What the runs of all calls share: an operation of a poll of the device, and how a run ends.
+use asking::Asked;
+use asking::Back;
+use asking::ask_frame_control;
+use asking::ask_interrupt;
+use asking::ask_interrupt_write;
+use asking::ask_packet;
+use asking::ask_status;
+use asking::ask_wait;
+use receive::polled::PollAt;
+use receive::polled::PollKind;
+use wlan::DriverError;
+use wlan::numbers::error_number;
+use wlan::numbers::error_value;
+ghost use mathlib.Core.Path.{_≡_};
+ghost use mathlib.Core.Bool.{true, false};
+ghost use mathlib.Core.List.{List};
+ghost use Prim.Native.Nat.{ℕ};
+ghost use lib.ListN.{length};
+ghost use Rattle.wlan.specs.Outcome.{errorNumber, errorValue};
+ghost use Rattle.definition.specs.Bus.{Bytes};
+ghost use Rattle.definition.specs.Prog.{World};
+ghost use Rattle.definition.specs.Run.{End};
+ghost use Rattle.device.specs.Poll.{pollOp};
+ghost use Rattle.receive.specs.Receive.{pointOf};
+ghost use Rattle.undo.specs.Undo.{Kept};
+ghost use Rattle.asking.specs.Asking.{Asks, KeptOn, followed};
+ghost use Rattle.turning.specs.Turning as to;
+
+// How a run ended, as numbers. back: all is to be as before the call.
+pub struct RunEnd {
+    pub back: bool,
+    pub refusal: u32,
+    pub value: u64,
+    pub len: usize,
+}
+
+// The operation at q.
+pub fn device_ask(
+    q: PollAt,
+    pos: usize,
+    len: usize,
+    undo: &mut [u8],
+    rec: &[u32],
+    log: &mut [u32],
+    buf: &mut [u8],
+) -> Asked
+    requires { ⌜ Kept (now undo) ⌝ }
+    requires { ⌜ length (now buf) ≡ 2048 ⌝ }
+    ensures asks { λ r. ⌜ Asks (pollOp (pointOf q)) (now (rec .entry)) (now (log .entry)) (now (log .exit)) pos len (now (buf .entry)) (now (buf .exit)) r ⌝ }
+    ensures kept { λ _. ⌜ KeptOn (now (undo .entry)) (now (undo .exit)) (now (buf .entry)) (now (buf .exit)) ⌝ }
+{
+    let k = q.kind;
+    let n = q.n;
+    match k {
+        PollKind::Interrupt => ask_interrupt(pos, len, rec, log),
+        PollKind::Acknowledge => ask_interrupt_write(n, pos, len, rec, log),
+        PollKind::Status => ask_status(pos, len, rec, log),
+        PollKind::Waited => ask_wait(1000, pos, len, log),
+        PollKind::FrameControl => ask_frame_control(pos, len, rec, log),
+        PollKind::Packet => ask_packet(n, pos, len, undo, rec, log, buf),
+    }
+}
+
+pub fn is_back(a: Asked) -> bool
+    ensures { λ r. ⌜ r ≡ to.isBack (a .back) ⌝ }
+{
+    let b = a.back;
+    match b {
+        Back::No => false,
+        Back::Unrecorded => true,
+        Back::WrongAnswer => true,
+        Back::LogFull => true,
+    }
+}
+
+fn back_number(b: Back) -> u32
+    ensures { λ r. ⌜ r ≡ to.backNumber b ⌝ }
+{
+    match b {
+        Back::No => 0,
+        Back::Unrecorded => 8,
+        Back::WrongAnswer => 9,
+        Back::LogFull => 12,
+    }
+}
+
+// 8, 9 or 12.
+pub fn back_end(a: Asked) -> RunEnd
+    ensures { λ r. ⌜ ((e : World) (on : End) (log b : List ℕ) (buf : Bytes) → to.isBack (a .back) ≡ true → to.Ends e (followed e log (a .len) on (a .back)) r log b buf) ⌝ }
+{
+    let b = a.back;
+    RunEnd {
+        back: true,
+        refusal: back_number(b),
+        value: 0,
+        len: a.len,
+    }
+}
+
+// 7, with the fault's place.
+pub fn fault_end(place: u64, len: usize) -> RunEnd
+    ensures { λ r. ⌜ r ≡ to.endBy 7 place len ⌝ }
+{
+    RunEnd {
+        back: false,
+        refusal: 7,
+        value: place,
+        len: len,
+    }
+}
+
+pub fn error_end(e: DriverError, len: usize) -> RunEnd
+    ensures { λ r. ⌜ r ≡ to.endBy (errorNumber e) (errorValue e) len ⌝ }
+{
+    RunEnd {
+        back: false,
+        refusal: error_number(e),
+        value: error_value(e),
+        len: len,
+    }
+}
+
+pub fn value_end(v: u64, len: usize) -> RunEnd
+    ensures { λ r. ⌜ r ≡ to.endBy 0 v len ⌝ }
+{
+    RunEnd {
+        back: false,
+        refusal: 0,
+        value: v,
+        len: len,
+    }
+}

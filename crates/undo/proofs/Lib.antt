@@ -1,0 +1,4 @@
+pub mod Eight
+pub mod Parts
+pub mod Laws
+pub mod Keeping

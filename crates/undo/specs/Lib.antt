@@ -1,0 +1,2 @@
+pub mod Le64
+pub mod Undo
