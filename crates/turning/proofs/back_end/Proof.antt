@@ -7,7 +7,7 @@ use Rattle.turning.proofs.back_end.Tie as tie
 use Rattle.turning.proofs.back_end.Reads as reads
 use Rattle.turning.proofs.back_end.Lts as lts
 use Rattle.turning.proofs.back_kind.Reads as back-kind-reads
-use Rattle.turning.proofs.no_failure.Reads as no-failure-reads
+use Rattle.run_end.proofs.no_failure.Reads as no-failure-reads
 
 -- src/lib.rt:139:15
 back-kind-requires : tie.Need-back-kind-requires
