@@ -42,8 +42,8 @@ use Rattle.control.specs.Meaning.{Args, callTree, callShown, Kc, laidAll, laidB
 use Rattle.control.proofs.Bridge.{call-is}
 use Rattle.effects.specs.Answer.{isWait}
 use Rattle.session_bytes.specs.Session.{isSession, sessionIn}
-use Rattle.turn.specs.Onward.{go}
-use Rattle.turn.proofs.Going.{go-unroll}
+use Rattle.going.specs.Onward.{go}
+use Rattle.going.proofs.Going.{go-unroll}
 use Rattle.undo.specs.Undo.{Kept, keptOf, backSession, backBuf}
 use Rattle.undo.proofs.Laws.{buf-changed}
 use Rattle.undo.proofs.Parts.{drop-over-past}
