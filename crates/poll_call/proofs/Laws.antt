@@ -33,13 +33,14 @@ use Rattle.handling.specs.Handle.{listHeard}
 use Rattle.session_bytes.specs.declared.session.Session.{Session}
 use Rattle.session_bytes.specs.Session.{isSession, sessionIn, withState}
 use Rattle.places.specs.Places.{Holds}
-use Rattle.receive.specs.Receive.{pointOf}
+use Rattle.device.specs.declared.PollPoint.{PollPoint}
+use Rattle.receive.specs.Receive.{pointOf, pointBy}
 use Rattle.receive.specs.declared.polled.PollAt.{PollAt}
 use Rattle.going.specs.Onward.{go}
 use Rattle.going.proofs.Going.{go-unroll}
 use Rattle.undo.specs.Undo.{Kept, backSession}
 use Rattle.polls.specs.declared.PollNow.{PollNow}
-use Rattle.polls.specs.Polls.{Gives, NextIs, Quiet, Reports, Stepped, listed}
+use Rattle.polls.specs.Polls.{Gives, NextIs, Quiet, Quiets, Reports, Stepped, listed}
 use Rattle.polls.proofs.Laws.{front-kept}
 use Rattle.run_end.specs.RunEnd as ending
 use Rattle.turning.specs.Turning as turning
@@ -101,6 +102,28 @@ module _ (p : PollAt) (y : Ans) (b₀ buf : Bytes) (i : InRange (pollOp (pointOf
   unfolding callOp callAnswer callTree pollPoint pollAnswer nextStep listAt listHeard
   poll-faults b v hv =
       step-tree q y (sessionIn b .st) b₀ buf (sessionIn b .list) (refuses (sessionIn b .st) false Before.None (DriverError.Fault v)) i hb (rw (← hv) refl) refl e ws log len
+
+module _ (y : Ans) (buf : Bytes) (e : World) (ws log : List ℕ) (len : ℕ) where
+  abbrev at-interrupt : CallPoint
+  at-interrupt = CallPoint.Poll PollPoint.Interrupt
+
+  abbrev quiet : State → Arrival
+  quiet st = arrivalAt BusOp.ReadInterrupt buf (st .sdpcm)
+
+  abbrev interrupted : List ℕ → ℕ → CallStep
+  interrupted b v = pollPoint (sessionIn b .st) PollPoint.Interrupt (BusAnswer.Value v) (quiet (sessionIn b .st))
+
+  pub interrupt-steps : (r : PollNow) (b : List ℕ) {d : List ℕ} (v : ℕ) → InRange BusOp.ReadInterrupt y → BusAnswer.Value v ≡ told y → Quiets b d r (interrupted b v)
+      → go e ws log len (callTree to.noArgs (interrupted b v .next) (turning.worldIn d buf)) ≡ go e ws log len (Kc to.noArgs at-interrupt y (turning.worldIn b buf))
+  unfolding callOp callAnswer landing listAt listHeard pollOp
+  interrupt-steps r b v i hv k =
+      rw (k .held .back) (
+      rw (k .heard, k .clear) at (step-tree at-interrupt y (sessionIn b .st) buf buf (sessionIn b .list) (interrupted b v) i refl (rw hv refl) (k .lay) e ws log len)
+      )
+
+  pub interrupt-faults : (b : List ℕ) (v : ℕ) → InRange BusOp.ReadInterrupt y → BusAnswer.Fault v ≡ told y → go e ws log len (stop (DriverError.Fault v) (turning.worldIn b buf)) ≡ go e ws log len (Kc to.noArgs at-interrupt y (turning.worldIn b buf))
+  unfolding landing pollOp pointBy
+  interrupt-faults b v i hv = poll-faults to.interrupt y buf buf i refl e ws log len b v hv
 
 module _ (started : ℕ) (y : Ans) (buf : Bytes) (e : World) (ws log : List ℕ) (len : ℕ) where
   abbrev at-tick : CallPoint

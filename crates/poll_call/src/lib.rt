@@ -1,8 +1,10 @@
 // `poll` over its recording, on a session's bytes.
 use asking::Asked;
+use asking::ask_interrupt;
 use asking::ask_tick;
 use polls::NowKind;
 use polls::PollNow;
+use polls::interrupt_read;
 use polls::poll_answer;
 use polls::poll_tick;
 use receive::polled::PollAt;
@@ -193,6 +195,51 @@ pub fn poll_turn(
     poll_asked(p, a, s, undo, rec, log, buf)
 }
 
+// A poll begins with the interrupt, and one with nothing ends there. What follows is as in `poll_now`, which has one caller so that the
+// loop holds it inline.
+fn interrupt_turn(s: &mut [u8], rec: &[u32], log: &mut [u32]) -> PollTurned
+    requires { ⌜ isSession (now s) ≡ true ⌝ }
+    ensures on { λ r. ⌜ ((e : World) (buf : Bytes) → to.Turns e (go e (drop 0 (now (rec .entry))) (now (log .entry)) 0 (callTree to.noArgs (to.asksAt to.interrupt) (turning.worldIn (now (s .entry)) buf))) (now (rec .entry)) r (now (log .exit)) (now (s .exit)) buf) ⌝ }
+    ensures held { λ _. ⌜ to.Front (now (s .entry)) (now (s .exit)) ⌝ }
+    ensures grew { λ r. ⌜ (r .on ≡ true → r .end .len ≤ length (now (log .entry))) ⌝ }
+{
+    let a = ask_interrupt(0, 0, rec, log);
+    if is_back(a) {
+        return over(back_end(a));
+    }
+    if a.fault {
+        return over(fault_end(a.value, a.len));
+    }
+    let n = interrupt_read(s, a.value);
+    let k = n.kind;
+    let p = n.at;
+    let report = n.report;
+    match k {
+        NowKind::Ask => onward(p, a.pos, a.len),
+        NowKind::Tick => over(tick_over(n.started, a.pos, a.len, s, rec, log)),
+        NowKind::Over => over(polled_end(report, a.len)),
+        NowKind::HeaderBeyond => over(error_end(DriverError::EventHeader, a.len)),
+    }
+}
+
+// The first operation is done where it is the interrupt's.
+fn first_turn(p: PollAt, s: &mut [u8], rec: &[u32], log: &mut [u32]) -> PollTurned
+    requires { ⌜ isSession (now s) ≡ true ⌝ }
+    ensures on { λ r. ⌜ ((e : World) (buf : Bytes) → to.Turns e (go e (drop 0 (now (rec .entry))) (now (log .entry)) 0 (callTree to.noArgs (to.asksAt p) (turning.worldIn (now (s .entry)) buf))) (now (rec .entry)) r (now (log .exit)) (now (s .exit)) buf) ⌝ }
+    ensures held { λ _. ⌜ to.Front (now (s .entry)) (now (s .exit)) ⌝ }
+    ensures grew { λ r. ⌜ (r .on ≡ true → r .end .len ≤ length (now (log .entry))) ⌝ }
+{
+    let k = p.kind;
+    match k {
+        PollKind::Interrupt => interrupt_turn(s, rec, log),
+        PollKind::Acknowledge => onward(p, 0, 0),
+        PollKind::Status => onward(p, 0, 0),
+        PollKind::Waited => onward(p, 0, 0),
+        PollKind::FrameControl => onward(p, 0, 0),
+        PollKind::Packet => onward(p, 0, 0),
+    }
+}
+
 // From its beginning to its end.
 pub fn poll_run(
     s: &mut [u8],
@@ -208,7 +255,7 @@ pub fn poll_run(
     ensures held { λ _. ⌜ isSession (now (s .exit)) ≡ true ⌝ }
     ensures kept { λ _. ⌜ turning.KeptAll (now (undo .entry)) (now (undo .exit)) (now (s .entry)) (now (s .exit)) (now (buf .entry)) (now (buf .exit)) ⌝ }
 {
-    let mut t = onward(poll_from(s), 0, 0);
+    let mut t = first_turn(poll_from(s), s, rec, log);
     while t.on {
         let p = t.at;
         let end = t.end;

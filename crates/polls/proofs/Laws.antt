@@ -1,12 +1,17 @@
 -- A step that leaves the list, one after a change of the state, and one after an event.
-use Prim.Native.Nat.{ℕ}
+use Prim.Native.Nat.{ℕ, _%_}
 use mathlib.Core.Path.{_≡_, refl, sym, ap, _∙_}
 use mathlib.Core.Bool.{Bool, true, false}
 use mathlib.Core.List.{List}
+use borrow.Author.Tests.{ne-eqb}
 use Rattle.wlan.specs.declared.AsyncEvent.{AsyncEvent}
+use Rattle.wlan.specs.declared.BusAnswer.{BusAnswer}
 use Rattle.wlan.specs.declared.DriverError.{DriverError}
 use Rattle.wlan.specs.declared.WlanPollResult.{WlanPollResult}
 use Rattle.wlan.specs.declared.State.{State}
+use Rattle.device.specs.declared.Arrival.{Arrival}
+use Rattle.device.specs.declared.PollPoint.{PollPoint}
+use Rattle.device.specs.Poll.{pollAnswer, valuedStep, interruptStep}
 use Rattle.handling.specs.Handle.{handledOf, listHeard}
 use Rattle.control.specs.declared.Before.{Before}
 use Rattle.control.specs.declared.CallNext.{CallNext}
@@ -61,6 +66,12 @@ still k n e = rw e (record { next = n; held = record { known = k; back = refl };
 
 pub changed : {N : CallNext → Type 0} {b d : List ℕ} {t : State} {n : CallNext} {h : Bool} {s : CallStep} → Holds d (withState b t) → N n → s ≡ step t h (layBefore Before.None) n → Quiet N b d h s
 changed k n e = rw e (record { next = n; held = k; heard = refl; clear = refl; lay = refl })
+
+-- an interrupt that is not 0 is written back
+pub acknowledges : (r : PollNow) (b : List ℕ) (v : ℕ) (a : Arrival) → isSession b ≡ true → (v % 65536 ≡ 0 → ⊥) → NextIs r (CallNext.Ask (CallPoint.Poll (PollPoint.Acknowledge (v % 65536))))
+    → Quiets b b r (to.pollPoint (sessionIn b .st) PollPoint.Interrupt (BusAnswer.Value v) a)
+unfolding to.pollPoint to.nextStep pollAnswer valuedStep interruptStep
+acknowledges r b v a k h n = rw (ne-eqb (v % 65536) 0 h) (still k n refl)
 
 -- the poll's report, as where it stands
 pub over-now : {b d : List ℕ} {v : PollReport} {s : CallStep} (r : PollNow) → r .kind ≡ NowKind.Over → r .report ≡ v → Reports b d v s → Quiets b d r s

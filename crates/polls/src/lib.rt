@@ -29,6 +29,8 @@ ghost use mathlib.Core.Bool.{Bool, true};
 ghost use lib.ListN.{length};
 ghost use Rattle.wlan.specs.declared.AsyncEvent.{AsyncEvent};
 ghost use Rattle.wlan.specs.declared.BusAnswer.{BusAnswer};
+ghost use Rattle.device.specs.declared.Arrival.{Arrival};
+ghost use Rattle.device.specs.declared.PollPoint as point;
 ghost use Rattle.device.specs.Poll.{pollOp};
 ghost use Rattle.device.specs.Meaning.{arrivalAt, Tells};
 ghost use Rattle.control.specs.Poll as to;
@@ -190,6 +192,21 @@ fn polled(s: &mut [u8], undo: &mut [u8], buf: &[u8], r: Polled) -> PollNow
         PolledKind::Data => frame(s, offset, len),
         PolledKind::HeaderBeyond => now_at(NowKind::HeaderBeyond, 0, unfailed(0)),
     }
+}
+
+// The interrupt was read.
+pub fn interrupt_read(s: &mut [u8], v: u64) -> PollNow
+    requires { ⌜ isSession (now s) ≡ true ⌝ }
+    ensures { λ r. ⌜ ((a : Arrival) → at.Quiets (now (s .entry)) (now (s .exit)) r (to.pollPoint (sessionIn (now (s .entry)) .st) point.PollPoint.Interrupt (BusAnswer.Value v) a)) ⌝ }
+{
+    let i = (v % 65536) as u16;
+    if i == 0 {
+        return nothing(s);
+    }
+    asks(PollAt {
+        kind: PollKind::Acknowledge,
+        n: i,
+    })
 }
 
 // The value of an answer to the operation at p.
