@@ -1,5 +1,6 @@
 // `send_data` over its recording, on a session's bytes.
 pub mod asks;
+pub mod straight;
 
 use crate::asks::send_ask;
 use asking::Asked;

@@ -2,10 +2,10 @@ use mathlib.Core.Path.{_∙_}
 use native.Mathlib.Omega.{arith}
 use Rattle.session_bytes.proofs.Laws.{session-length}
 use borrow.Author.Needs.{needs}
-use Rattle.entering.proofs.send_entry.send_here.Statement.{statement}
-use Rattle.entering.proofs.send_entry.send_here.Tie as tie
-use Rattle.entering.proofs.send_entry.send_here.Reads as reads
-use Rattle.entering.proofs.send_entry.send_here.Lts as lts
+use Rattle.entering.proofs.send_entry.send_kept.Statement.{statement}
+use Rattle.entering.proofs.send_entry.send_kept.Tie as tie
+use Rattle.entering.proofs.send_entry.send_kept.Reads as reads
+use Rattle.entering.proofs.send_entry.send_kept.Lts as lts
 use Rattle.entering.proofs.finish.Reads as finish-reads
 use Rattle.entering.proofs.send_entry.send_any.Reads as send-any-reads
 use Rattle.undo.proofs.keep_front.Reads as keep-front-reads
@@ -37,8 +37,8 @@ same-length-5 c = search needs
 returns : tie.Need-returns
 returns c = c .before .before .before .before .before .before .finish .ensures (c .before .before .before .before .before .before .before .before .before .before .before .before .before .before .before .before .before .before .before .before .before .before .before .before .before .before .before .before .before .before .before .before .before .before .before .before .args .session .now) _ (c .before .before .before .before .before .before .before .before .before .before .before .before .before .before .before .before .before .before .before .before .before .before .before .before .before .before .before .before .before .before .before .before .before .before .before .before .args .buf .now) _ (c .before .before .before .before .before .before .before .before .before .before .before .before .before .before .before .before .before .before .before .before .before .before .before .before .before .before .before .before .before .before .before .before .before .before .before .before .pre .0) (c .before .before .before .before .before .before .before .before .before .before .before .before .before .before .before .before .before .before .before .send-any .ensures .kept .session ∙ c .before .before .before .before .before .before .before .before .before .before .before .before .before .before .before .before .before .before .before .before .before .before .before .before .before .before .keep-front .ensures .3) (c .before .before .before .before .before .before .before .before .before .before .before .before .before .before .before .before .before .before .before .send-any .ensures .kept .buf ∙ c .before .before .before .before .before .before .before .before .before .before .before .before .before .before .before .before .before .before .before .before .before .before .before .before .before .before .keep-front .ensures .4 (c .before .before .before .before .before .before .before .before .before .before .before .before .before .before .before .before .before .before .before .before .before .before .before .before .before .before .before .before .before .before .before .before .before .before .before .before .args .buf .now)) (c .before .before .before .before .before .before .before .before .before .before .before .before .before .before .before .before .before .before .before .send-any .ensures .ends)
 
-pub send-here-spec : {M : Type 1} → statement M
-send-here-spec =
+pub send-kept-spec : {M : Type 1} → statement M
+send-kept-spec =
     tie.close
     (tie.spec
     keep-front-requires
