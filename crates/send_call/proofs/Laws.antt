@@ -1,7 +1,7 @@
 -- A send's step on a session's bytes is the tree's.
 use Prim.Native.Nat.{ℕ, _+_, _-_, _%_, _<_, _≤_, min}
 use mathlib.Core.Path.{_≡_, refl, sym, ap, _∙_}
-use mathlib.Core.Bool.{Bool, true, false, true≢false}
+use mathlib.Core.Bool.{Bool, true, false}
 use mathlib.Core.List.{List, []}
 use native.Mathlib.Omega.{arith}
 use lib.Bits.{bitAnd}
@@ -53,10 +53,9 @@ use Rattle.asking.specs.declared.Asked.{Asked}
 use Rattle.asking.specs.declared.Back.{Back}
 use Rattle.asking.specs.Asking.{Asks}
 use Rattle.sending.specs.declared.SendAt.{SendAt}
-use Rattle.sending.specs.declared.SendKind.{SendKind}
 use Rattle.sending.specs.declared.SendNow.{SendNow}
 use Rattle.sending.specs.declared.SentKind.{SentKind}
-use Rattle.sending.specs.Sending.{headerIn, nextBy, pointBy, pointOf, listed, Covered, Sends}
+use Rattle.sending.specs.Sending.{headerIn, nextBy, listed, Covered, Sends}
 use Rattle.sending.proofs.Laws.{faulted}
 use Rattle.turning.specs.Turning as turning
 use Rattle.turning.proofs.Laws as law
@@ -221,31 +220,6 @@ pub valued-ends : (op : BusOp) {rec log log′ : List ℕ} {pos len : ℕ} {b c 
     → ((y : Ans) → BusAnswer.Value (x .value) ≡ told y → InRange op y → c ≡ landing op y b → turning.Ends e (go e (drop (x .pos) rec) log′ (x .len) (k y)) r l d f)
     → turning.Ends e (go e (drop pos rec) log len (asking (opIn op s b) k)) r l d f
 valued-ends op x h e s k {r} {l} {d} {f} n g t = law.asked-value op x h e s k d (λ (o : End). turning.Ends e o r l d f) n g t
-
--- ---- a send that need not wait
-
-pub ready-point : (p : SendAt) → p .kind ≡ SendKind.Ready → pointOf p ≡ SendPoint.Ready (p .left) (p .n)
-unfolding pointBy
-ready-point p h = rw h refl
-
-ready-asks : (p : SendAt) → p .kind ≡ SendKind.Ready → send.sendOp (pointOf p) ≡ BusOp.ReadStatus
-unfolding pointBy send.sendOp
-ready-asks p h = rw h refl
-
-pub asks-ready : {rec log log′ : List ℕ} {pos len : ℕ} {b c : Bytes} {x : Asked} (p : SendAt) → p .kind ≡ SendKind.Ready → Asks BusOp.ReadStatus rec log log′ pos len b c x → Asks (send.sendOp (pointOf p)) rec log log′ pos len b c x
-asks-ready p h k = rw (ready-asks p h) k
-
-pub ready-kind : (k : SendKind) → to.isReady k ≡ true → k ≡ SendKind.Ready
-ready-kind SendKind.First h = absurd (true≢false (sym h))
-ready-kind SendKind.Polling h = absurd (true≢false (sym h))
-ready-kind SendKind.Late h = absurd (true≢false (sym h))
-ready-kind SendKind.Waited h = absurd (true≢false (sym h))
-ready-kind SendKind.Ready h = refl
-ready-kind SendKind.Writing h = absurd (true≢false (sym h))
-
-pub now-asks : (n : SendNow) → n .kind ≡ SentKind.Ask → to.callNow n ≡ to.asksAt (n .at)
-unfolding to.callBy
-now-asks n h = rw h refl
 
 -- ---- the loop
 

@@ -67,8 +67,8 @@ module _ (frame : Bytes) (b d rec log log′ : List ℕ) (b₀ f : Bytes) (room 
       let q = SendPoint.Writing n in
       valued-ends BusOp.ReadStatus _ (h .status) e (secretAt a (CallPoint.Send p)) (λ y. Kc a (CallPoint.Send p) y (turning.worldIn d f)) refl refl
       (λ y hv i hb. ends-by (ready-goes frame m p y f f i hb e (drop 2 rec) (set log 0 0x20000000) 1 999 n refl d (getD rec 1 0) hv says-ready)
-        (valued-ends (BusOp.WritePacket n) _ (h .write) e (secretAt a (CallPoint.Send q)) (λ y. Kc a (CallPoint.Send q) y (turning.worldIn d f)) refl refl
-          (λ y hv i hb. write-ends frame m q y f f i hb e (drop 3 rec) log′ len n refl d 0 hv)))
+      (valued-ends (BusOp.WritePacket n) _ (h .write) e (secretAt a (CallPoint.Send q)) (λ y. Kc a (CallPoint.Send q) y (turning.worldIn d f)) refl refl
+      (λ y hv i hb. write-ends frame m q y f f i hb e (drop 3 rec) log′ len n refl d 0 hv)))
 
   pub straight-ends : seq ≡ sessionIn b .st .sdpcm .«packet_tx_seq» → Holds d (withState b (spending (sessionIn b .st))) → f ≡ over (over b₀ 12 (dataPart interface frame)) 0 (header (18 + length frame) seq 2) → Both rec log log′ n len f
       → turning.Ends e (go e (drop 0 rec) log 0 (callShown (to.argsIn frame) (to.startIn interface frame b) (eventOf [] 0) (turning.worldIn b b₀))) (turning.endBy 0 0 len) log′ d f

@@ -18,7 +18,7 @@ ghost use lib.Bits.{bitAnd};
 ghost use lib.Dec.{eqb};
 ghost use lib.ListN.{length, drop};
 ghost use Rattle.slices.specs.Over.{over};
-ghost use Rattle.slices.specs.Le.{wordsFor, round4};
+ghost use Rattle.slices.specs.Le.{wordsFor};
 ghost use Rattle.definition.specs.Event.{eventOf};
 ghost use Rattle.definition.specs.Packet.{header, dataPart};
 ghost use Rattle.definition.specs.Prog.{World};

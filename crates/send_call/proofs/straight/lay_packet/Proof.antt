@@ -1,4 +1,3 @@
-use mathlib.Core.Path.{ap, _∙_}
 use borrow.Author.Needs.{needs}
 use Rattle.send_call.proofs.straight.lay_packet.Statement.{statement}
 use Rattle.send_call.proofs.straight.lay_packet.Tie as tie

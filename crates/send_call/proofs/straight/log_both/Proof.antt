@@ -1,5 +1,4 @@
-use mathlib.Core.Path.{_∙_}
-use lib.ListN.{length, set, length-set}
+use lib.ListN.{length-set}
 use native.Mathlib.Omega.{arith}
 use Rattle.wlan.specs.declared.BusOp.{BusOp}
 use Rattle.bus.proofs.Words.{length-words}

@@ -1,4 +1,4 @@
-use mathlib.Core.Path.{ap, _∙_}
+use mathlib.Core.Path.{ap}
 use borrow.Author.Needs.{needs}
 use Rattle.send_call.proofs.straight.spend.Statement.{statement}
 use Rattle.send_call.proofs.straight.spend.Tie as tie
