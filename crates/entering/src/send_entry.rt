@@ -3,13 +3,13 @@ use crate::finish;
 use crate::hand;
 use crate::other_length;
 use requests::numbers::is_interface;
+use run_end::RunEnd;
+use run_end::done_end;
+use run_end::error_end;
 use send_call::send_run;
 use send_call::straight::goes_straight;
 use send_call::straight::send_straight;
 use session_bytes::session::is_session;
-use turning::RunEnd;
-use turning::error_end;
-use turning::value_end;
 use undo::keep_front;
 use wlan::DriverError;
 ghost use mathlib.Core.Path.{_≡_};
@@ -98,7 +98,7 @@ fn send_here(
 {
     if is_straight(interface, frame, session, rec, log) {
         let len = send_straight(interface as u8, frame, session, log, buf);
-        return hand(value_end(0, len), result);
+        return hand(done_end(len), result);
     }
     send_kept(interface, frame, session, undo, rec, log, buf, result)
 }

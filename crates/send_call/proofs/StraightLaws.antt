@@ -10,6 +10,8 @@ use lib.ListN.{length, drop, set, getD}
 use Rattle.slices.specs.Over.{over}
 use Rattle.slices.specs.Le.{round4}
 use Rattle.wlan.specs.declared.BusOp.{BusOp}
+use Rattle.wlan.specs.declared.Outcome.{Outcome}
+use Rattle.wlan.specs.declared.Success.{Success}
 use Rattle.definition.specs.Bus.{Bytes, wordsOf}
 use Rattle.definition.specs.Event.{eventOf}
 use Rattle.definition.specs.Packet.{header, dataPart}
@@ -27,6 +29,7 @@ use Rattle.turn.specs.Onward.{go}
 use Rattle.asking.specs.declared.Back.{Back}
 use Rattle.asking.specs.Asking.{Asks, askedOf}
 use Rattle.asking.proofs.Laws as asking
+use Rattle.run_end.specs.RunEnd as ending
 use Rattle.turning.specs.Turning as turning
 use Rattle.send_call.specs.SendCall as to
 use Rattle.send_call.specs.Straight.{Answered, Straight, Both}
@@ -58,7 +61,7 @@ module _ (frame : Bytes) (b d rec log log′ : List ℕ) (b₀ f : Bytes) (room 
       rw w (s .answered .ready)
 
   -- where the status is read
-  both-end : Both rec log log′ n len f → turning.Ends e (go e (drop 0 rec) log 0 (callTree (to.argsIn frame) (to.asksOf (SendPoint.Ready 999 n)) (turning.worldIn d f))) (turning.endBy 0 0 len) log′ d f
+  both-end : Both rec log log′ n len f → turning.Ends e (go e (drop 0 rec) log 0 (callTree (to.argsIn frame) (to.asksOf (SendPoint.Ready 999 n)) (turning.worldIn d f))) (ending.endBy (Outcome.Ok Success.Done) len) log′ d f
   unfolding callTree callOp sendOp
   both-end h =
       let a = to.argsIn frame in
@@ -71,5 +74,5 @@ module _ (frame : Bytes) (b d rec log log′ : List ℕ) (b₀ f : Bytes) (room 
       (λ y hv i hb. write-ends frame m q y f f i hb e (drop 3 rec) log′ len n refl d 0 hv)))
 
   pub straight-ends : seq ≡ sessionIn b .st .sdpcm .«packet_tx_seq» → Holds d (withState b (spending (sessionIn b .st))) → f ≡ over (over b₀ 12 (dataPart interface frame)) 0 (header (18 + length frame) seq 2) → Both rec log log′ n len f
-      → turning.Ends e (go e (drop 0 rec) log 0 (callShown (to.argsIn frame) (to.startIn interface frame b) (eventOf [] 0) (turning.worldIn b b₀))) (turning.endBy 0 0 len) log′ d f
+      → turning.Ends e (go e (drop 0 rec) log 0 (callShown (to.argsIn frame) (to.startIn interface frame b) (eventOf [] 0) (turning.worldIn b b₀))) (ending.endBy (Outcome.Ok Success.Done) len) log′ d f
   straight-ends hs hd hf h = ends-by (ap (λ t. go e (drop 0 rec) log 0 t) (free-starts frame b d interface seq b₀ (s .free) (s .most) hs hd hf)) (both-end h)

@@ -19,6 +19,8 @@ ghost use lib.Dec.{eqb};
 ghost use lib.ListN.{length, drop};
 ghost use Rattle.slices.specs.Over.{over};
 ghost use Rattle.slices.specs.Le.{wordsFor};
+ghost use Rattle.wlan.specs.declared.Outcome.{Outcome};
+ghost use Rattle.wlan.specs.declared.Success.{Success};
 ghost use Rattle.definition.specs.Event.{eventOf};
 ghost use Rattle.definition.specs.Packet.{header, dataPart};
 ghost use Rattle.definition.specs.Prog.{World};
@@ -27,6 +29,7 @@ ghost use Rattle.send.specs.Send.{spending};
 ghost use Rattle.session_bytes.specs.Session.{isSession, sessionIn, withState};
 ghost use Rattle.places.specs.Places.{Holds};
 ghost use Rattle.turn.specs.Onward.{go};
+ghost use Rattle.run_end.specs.RunEnd as ending;
 ghost use Rattle.turning.specs.Turning as turning;
 ghost use Rattle.send_call.specs.SendCall as to;
 ghost use Rattle.send_call.specs.Straight as straight;
@@ -111,7 +114,7 @@ pub fn send_straight(
     requires { ⌜ isSession (now s) ≡ true ⌝ }
     requires { ⌜ length (now frame) ≤ 2022 ⌝ }
     requires { ⌜ 2 + wordsFor (18 + length (now frame)) ≤ length (now log) ⌝ }
-    ensures on { λ r. ⌜ ((rec : List ℕ) → straight.Straight (length (now (frame .entry))) (now (s .entry)) rec (length (now (log .entry))) → (e : World) → turning.Ends e (go e (drop 0 rec) (now (log .entry)) 0 (callShown (to.argsIn (now (frame .entry))) (to.startIn interface (now (frame .entry)) (now (s .entry))) (eventOf [] 0) (turning.worldIn (now (s .entry)) (now (buf .entry))))) (turning.endBy 0 0 r) (now (log .exit)) (now (s .exit)) (now (buf .exit))) ⌝ }
+    ensures on { λ r. ⌜ ((rec : List ℕ) → straight.Straight (length (now (frame .entry))) (now (s .entry)) rec (length (now (log .entry))) → (e : World) → turning.Ends e (go e (drop 0 rec) (now (log .entry)) 0 (callShown (to.argsIn (now (frame .entry))) (to.startIn interface (now (frame .entry)) (now (s .entry))) (eventOf [] 0) (turning.worldIn (now (s .entry)) (now (buf .entry))))) (ending.endBy (Outcome.Ok Success.Done) r) (now (log .exit)) (now (s .exit)) (now (buf .exit))) ⌝ }
     ensures held { λ _. ⌜ isSession (now (s .exit)) ≡ true ⌝ }
 {
     let seq = spend(s);
