@@ -42,7 +42,6 @@ ghost use Rattle.turn.specs.Onward.{go};
 ghost use Rattle.undo.specs.Undo.{Kept};
 ghost use Rattle.asking.specs.Asking.{Asks, Grew};
 ghost use Rattle.sending.specs.Sending.{Covered, pointOf};
-ghost use Rattle.run_end.specs.RunEnd as ending;
 ghost use Rattle.turning.specs.Turning as turning;
 ghost use Rattle.send_call.specs.SendCall as to;
 
