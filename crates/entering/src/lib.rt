@@ -20,7 +20,7 @@ ghost use Rattle.turning.specs.Turning.{worldIn, Ends};
 ghost use Rattle.entry.specs.Entry.{shown, handed};
 
 // Value and log length into the result; the refusal's number.
-pub fn hand(r: RunEnd, result: &mut [u64]) -> u32
+fn hand(r: RunEnd, result: &mut [u64]) -> u32
     ensures { λ x. ⌜ (x ≡ r .refusal) × (now (result .exit) ≡ over (now (result .entry)) 0 (r .value ∷ r .len ∷ [])) ⌝ }
 {
     put_result(result, r.value, r.len as u64);

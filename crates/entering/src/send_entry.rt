@@ -1,14 +1,10 @@
 // `send_data`.
 use crate::finish;
-use crate::hand;
 use crate::other_length;
 use requests::numbers::is_interface;
 use run_end::RunEnd;
-use run_end::done_end;
 use run_end::error_end;
 use send_call::send_run;
-use send_call::straight::goes_straight;
-use send_call::straight::send_straight;
 use session_bytes::session::is_session;
 use undo::keep_front;
 use wlan::DriverError;
@@ -16,12 +12,11 @@ ghost use mathlib.Core.Path.{_≡_};
 ghost use mathlib.Core.Bool.{true};
 ghost use mathlib.Core.List.{[]};
 ghost use lib.ListN.{length};
-ghost use Rattle.definition.specs.Calls.{Call, isInterface};
+ghost use Rattle.definition.specs.Calls.{Call};
 ghost use Rattle.definition.specs.Run.{called};
 ghost use Rattle.session_bytes.specs.Session.{isSession};
 ghost use Rattle.turning.specs.Turning.{worldIn};
 ghost use Rattle.undo.specs.Undo.{Kept};
-ghost use Rattle.send_call.specs.Straight.{Straight};
 ghost use Rattle.entry.specs.Entry.{shown, handed};
 ghost use Rattle.entering.specs.Entering as to;
 
@@ -49,8 +44,7 @@ fn send_any(
     error_end(DriverError::InvalidArg, 0)
 }
 
-// What may have to be put back is kept.
-fn send_kept(
+fn send_here(
     interface: u32,
     frame: &[u8],
     session: &mut [u8],
@@ -68,39 +62,6 @@ fn send_kept(
     keep_front(undo, session);
     let r = send_any(interface, frame, session, undo, rec, log, buf);
     finish(r, session, undo, buf, result)
-}
-
-// Nothing refuses it any more.
-fn is_straight(interface: u32, frame: &[u8], session: &[u8], rec: &[u32], log: &[u32]) -> bool
-    requires { ⌜ isSession (now session) ≡ true ⌝ }
-    ensures { λ r. ⌜ (r ≡ true → (isInterface interface ≡ true) × Straight (length (now (frame .entry))) (now (session .entry)) (now (rec .entry)) (length (now (log .entry)))) ⌝ }
-{
-    if is_interface(interface) {
-        return goes_straight(frame, session, rec, log);
-    }
-    false
-}
-
-fn send_here(
-    interface: u32,
-    frame: &[u8],
-    session: &mut [u8],
-    undo: &mut [u8],
-    rec: &[u32],
-    log: &mut [u32],
-    buf: &mut [u8],
-    result: &mut [u64],
-) -> u32
-    requires { ⌜ isSession (now session) ≡ true ⌝ }
-    requires { ⌜ length (now undo) ≡ 3444 ⌝ }
-    requires { ⌜ length (now buf) ≡ 2048 ⌝ }
-    ensures { λ x. ⌜ shown x (now (session .exit)) (now (log .exit)) (now (buf .exit)) [] (now (result .exit)) ≡ handed (now (result .entry)) (called (Call.sendData interface (now (frame .entry))) (worldIn (now (session .entry)) (now (buf .entry))) (now (rec .entry)) (now (log .entry)) []) ⌝ }
-{
-    if is_straight(interface, frame, session, rec, log) {
-        let len = send_straight(interface as u8, frame, session, log, buf);
-        return hand(done_end(len), result);
-    }
-    send_kept(interface, frame, session, undo, rec, log, buf, result)
 }
 
 pub fn send_entered(

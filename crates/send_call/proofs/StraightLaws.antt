@@ -1,14 +1,16 @@
--- A send that nothing refuses any more: its two operations, and its end.
-use Prim.Native.Nat.{ℕ, _+_, _%_, _≤_, _<_}
-use mathlib.Core.Path.{_≡_, refl, ap}
+-- A send that nothing refuses any more: its packet, its two operations, and its end.
+use Prim.Native.Nat.{ℕ, zero, suc, _+_, _%_, _≤_, _<_}
+use mathlib.Core.Path.{_≡_, refl, ap, _∙_}
 use mathlib.Core.Bool.{false}
-use mathlib.Core.List.{List, []}
+use mathlib.Core.List.{List, [], _∷_}
+use native.Mathlib.Nat.{le-of-suc-le-suc, not-suc-le-zero}
 use native.Mathlib.Omega.{arith}
 use lib.Bits.{bitAnd}
 use lib.Dec.{eqb}
 use lib.ListN.{length, drop, set, getD}
 use Rattle.slices.specs.Over.{over}
 use Rattle.slices.specs.Le.{round4}
+use Rattle.slices.proofs.Over.{over-nil}
 use Rattle.wlan.specs.declared.BusOp.{BusOp}
 use Rattle.wlan.specs.declared.Outcome.{Outcome}
 use Rattle.wlan.specs.declared.Success.{Success}
@@ -35,6 +37,25 @@ use Rattle.send_call.specs.SendCall as to
 use Rattle.send_call.specs.Straight.{Answered, Straight, Both}
 use Rattle.send_call.proofs.Laws.{free-starts, ends-by, valued-ends, ready-goes, write-ends}
 
+-- ---- the packet
+
+module _ {ℓ} {A : Type ℓ} where
+  -- a run over the front, and one behind it
+  front-first : (d s : List A) (at : ℕ) (t : List A) → length s ≤ at → over (over d 0 s) at t ≡ over (over d at t) 0 s
+  unfolding over
+  front-first [] s at t h = refl
+  front-first (x ∷ d) [] at t h = rw (over-nil (over (x ∷ d) at t) 0) refl
+  front-first (x ∷ d) (y ∷ s) zero t h = absurd (not-suc-le-zero h)
+  front-first (x ∷ d) (y ∷ s) (suc at) t h = ap (λ (l : List A). y ∷ l) (front-first d s at t (le-of-suc-le-suc h))
+
+pub packet-laid : (b : Bytes) (interface n seq : ℕ) (frame : Bytes) {f : Bytes} → f ≡ over (over b 0 (header n seq 2)) 12 (dataPart interface frame) → f ≡ over (over b 12 (dataPart interface frame)) 0 (header n seq 2)
+unfolding header
+packet-laid b interface n seq frame h =
+    let e : length (header n seq 2) ≡ 12 = refl in
+    h ∙ front-first b (header n seq 2) 12 (dataPart interface frame) (omega arith)
+
+-- ---- the operations
+
 -- the status is read
 status-asked : (rec log : List ℕ) (b : Bytes) → Answered rec → 0 < length log → Asks BusOp.ReadStatus rec log (set log 0 0x20000000) 0 0 b b (askedOf Back.No false (getD rec 1 0) 2 1)
 unfolding wordsOf landing isWait
@@ -49,6 +70,8 @@ write-asked rec log log′ n k b h g =
 
 pub both-asked : (rec log log′ : List ℕ) (n k : ℕ) (b : Bytes) → 0 < length log → asking.Logged (BusOp.WritePacket n) (set log 0 0x20000000) log′ 1 k b → Answered rec → Both rec log log′ n (1 + k) b
 both-asked rec log log′ n k b l g h = record { status = status-asked rec log b h l; write = write-asked rec (set log 0 0x20000000) log′ n k b h g }
+
+-- ---- the end
 
 -- b and d: the session's bytes before and after; b₀ and f: the work buffer
 module _ (frame : Bytes) (b d rec log log′ : List ℕ) (b₀ f : Bytes) (room : ℕ) (s : Straight (length frame) b rec room) (interface seq len : ℕ) (e : World) where

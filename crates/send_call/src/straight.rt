@@ -83,13 +83,13 @@ fn spend(s: &mut [u8]) -> u8
     t.packet_tx_seq
 }
 
-// Lays the packet, its header last.
+// Lays the packet, its header first: those bytes are then there when the log takes them.
 fn lay_packet(interface: u8, seq: u8, frame: &[u8], buf: &mut [u8])
     requires { ⌜ length (now frame) ≤ 2022 ⌝ }
     ensures { λ _. ⌜ now (buf .exit) ≡ over (over (now (buf .entry)) 12 (dataPart interface (now (frame .entry)))) 0 (header (18 + length (now (frame .entry))) seq 2) ⌝ }
 {
-    put_data(buf, interface, frame);
     put_header(buf, 18 + frame.len() as u16, seq, 2);
+    put_data(buf, interface, frame);
 }
 
 // Both operations go to the log: the status read, and the write of n bytes.
