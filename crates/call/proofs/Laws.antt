@@ -1,46 +1,35 @@
--- A call that ended, by the tree that it began with.
-use mathlib.Core.Path.{_≡_, refl, _∙_}
-use mathlib.Core.List.{List, []}
+-- A call by value, by what its run left in bytes.
 use Prim.Native.Nat.{ℕ}
-use lib.ListN.{length, drop}
+use mathlib.Core.Path.{_≡_, refl, sym, ap, _∙_}
+use mathlib.Core.List.{List, []}
+use lib.ListN.{length}
 use Rattle.wlan.specs.declared.Outcome.{Outcome}
 use Rattle.wlan.specs.declared.Refusal.{Refusal}
 use Rattle.wlan.specs.declared.ScanList.{ScanList}
 use Rattle.wlan.specs.declared.State.{State}
 use Rattle.definition.specs.Bus.{Bytes}
-use Rattle.definition.specs.Event.{eventOf}
 use Rattle.definition.specs.Prog.{World, world}
-use Rattle.definition.specs.Calls.{Call, call}
-use Rattle.definition.specs.Run.{called, runOf}
-use Rattle.control.specs.Meaning.{callShown}
-use Rattle.effects.specs.Args.{argsOf}
-use Rattle.jobs.specs.declared.Begun.{Begun}
-use Rattle.jobs.specs.Jobs.{Begins}
-use Rattle.turn.specs.declared.RunNext.{RunNext}
-use Rattle.turn.specs.declared.StateEnd.{StateEnd}
-use Rattle.turn.specs.Onward as to
-use Rattle.turn.proofs.TurnLaws as law
+use Rattle.definition.specs.Calls.{Call}
+use Rattle.definition.specs.Run.{End, called}
+use Rattle.session_bytes.specs.declared.session.Session.{Session}
+use Rattle.session_bytes.specs.Session.{sessionBytes, sessionIn, isSession}
+use Rattle.run_end.specs.declared.RunEnd.{RunEnd}
+use Rattle.turn.specs.declared.CallEnd.{CallEnd}
+use Rattle.turn.specs.Onward.{endOf}
+use Rattle.turning.specs.Turning.{worldIn}
+use Rattle.runs.specs.Runs.{Left, Ran}
+use Rattle.runs.proofs.Called.{called-13}
 
-called-is : (c : Call) (w : World) (rec log : List ℕ) → to.calledBy w rec log (call c w) ≡ called c w rec log []
-unfolding to.calledBy called runOf
-called-is c w rec log = refl
+-- x has what is read from the bytes s
+pub ended : {x : CallEnd} {s log : List ℕ} {buf : Bytes} {r : RunEnd} (e : End) → Left e log s buf r → x .outcome ≡ e .outcome → x .st ≡ sessionIn s .st → x .list ≡ sessionIn s .list → x .len ≡ r .len → endOf x log buf [] ≡ e
+ended e h o t l n =
+    rw (o, n, h .len, h .log, ← h .output, t ∙ ap (λ (w : World). w .st) (h .stands), l ∙ ap (λ (w : World). w .list) (h .stands), ap (λ (w : World). w .buf) (h .stands)) refl
 
-same-list : (n : RunNext) (l : ScanList) → to.listEnd n l l ≡ l
-unfolding to.listEnd
-same-list (RunNext.At p) l = refl
-same-list (RunNext.Over o) l = refl
-same-list (RunNext.Back r) l = refl
+pub by-value : {s log′ d : List ℕ} {g : Bytes} {r : RunEnd} {x : CallEnd} (c : Call) (st : State) (list : ScanList) (rec log : List ℕ) (buf : Bytes) → s ≡ sessionBytes (record { st = st; list = list }) → sessionIn (sessionBytes (record { st = st; list = list })) ≡ record { st = st; list = list }
+    → Ran c rec log log′ s d buf g r → ((e : End) (l : List ℕ) (b : Bytes) → Left e l d b r → endOf x l b [] ≡ e) → endOf x log′ g [] ≡ called c (world st buf list) rec log []
+by-value c st list rec log buf es back ran f = rw (es, back) at (f _ _ _ ran)
 
--- nothing was done to the list
-pub list-kept : (x : StateEnd) (n : RunNext) (l : ScanList) (log : List ℕ) (b : Bytes) → to.endOf (to.withList x l) log b [] ≡ to.endOf (to.withList x (to.listEnd n l l)) log b []
-list-kept x n l log b = rw (same-list n l)
-
-module _ (st : State) (buf : Bytes) (l : ScanList) (rec log : List ℕ) (c : Call) where
-  pub called-13 : (length buf ≡ 2048 → ⊥) → to.endOf (record { outcome = Outcome.Refused Refusal.BufferLength; st = st; list = l; len = 0 }) log buf [] ≡ called c (world st buf l) rec log []
-  called-13 h = law.called-13 (world st buf l) rec log (call c (world st buf l)) h ∙ called-is c (world st buf l) rec log
-
-  -- what the first run went on to is the call
-  pub called-from : (b : Begun) (first second : Bytes) → length buf ≡ 2048 → Begins c first second st b
-      → to.go (world st buf l) (drop 0 rec) log 0 (callShown (argsOf (b .job) first second) (b .step) (eventOf [] 0) (world st buf l)) ≡ called c (world st buf l) rec log []
-  called-from b first second h begins =
-      law.called-from (world st buf l) rec log (call c (world st buf l)) _ h (begins buf l) ∙ called-is c (world st buf l) rec log
+-- 13
+pub other-called : {x : CallEnd} (c : Call) (st : State) (list : ScanList) (rec log : List ℕ) (buf : Bytes) → (x .outcome ≡ Outcome.Refused Refusal.BufferLength) × (x .st ≡ st) × (x .list ≡ list) × (x .len ≡ 0) → (length buf ≡ 2048 → ⊥)
+    → endOf x log buf [] ≡ called c (world st buf list) rec log []
+other-called c st list rec log buf h d = rw (h .0, h .1, h .2, h .3) (called-13 st buf list rec log c d)

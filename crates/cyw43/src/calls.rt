@@ -1,9 +1,8 @@
 // init, scan, join, leave, abort, poll.
+use call::join;
 use call::plain;
-use call::whole;
+use call::poll;
 use jobs::PlainCall;
-use jobs::bytes::at_most;
-use jobs::bytes::join_begun;
 use turn::CallEnd;
 use wlan::ScanList;
 use wlan::State;
@@ -45,10 +44,7 @@ pub fn wifi_connect(
 ) -> CallEnd
     ensures { λ r. ⌜ endOf r (now (log .exit)) (now (buf .exit)) [] ≡ called (Call.wifiConnect auth (now (ssid .entry)) (now (passphrase .entry))) (world st (now (buf .entry)) list) (now (rec .entry)) (now (log .entry)) [] ⌝ }
 {
-    let n = at_most(32, ssid.len());
-    let m = at_most(128, passphrase.len());
-    let b = join_begun(auth, ssid, passphrase, st);
-    whole(b, &ssid[..n], &passphrase[..m], st, list, rec, log, buf)
+    join(auth, ssid, passphrase, st, list, rec, log, buf)
 }
 
 pub fn wifi_disconnect(
@@ -78,5 +74,5 @@ pub fn wifi_abort_connect(
 pub fn wifi_poll(st: State, list: ScanList, rec: &[u32], log: &mut [u32], buf: &mut [u8]) -> CallEnd
     ensures { λ r. ⌜ endOf r (now (log .exit)) (now (buf .exit)) [] ≡ called Call.wifiPoll (world st (now (buf .entry)) list) (now (rec .entry)) (now (log .entry)) [] ⌝ }
 {
-    plain(PlainCall::Poll, st, list, rec, log, buf)
+    poll(st, list, rec, log, buf)
 }

@@ -1,9 +1,7 @@
 // send and take.
-use call::whole;
+use call::send;
 use ending::take::take;
 use ending::wind::with_list;
-use jobs::bytes::at_most;
-use jobs::bytes::send_begun;
 use turn::CallEnd;
 use wlan::ScanList;
 use wlan::State;
@@ -27,10 +25,7 @@ pub fn send_data(
 ) -> CallEnd
     ensures { λ r. ⌜ endOf r (now (log .exit)) (now (buf .exit)) [] ≡ called (Call.sendData interface (now (frame .entry))) (world st (now (buf .entry)) list) (now (rec .entry)) (now (log .entry)) [] ⌝ }
 {
-    let n = at_most(2030, frame.len());
-    let b = send_begun(interface, frame, st);
-    let none = [0u8; 0];
-    whole(b, &frame[..n], &none, st, list, rec, log, buf)
+    send(interface, frame, st, list, rec, log, buf)
 }
 
 // The recording is not read, and no operation logged.

@@ -1,9 +1,7 @@
 // GPIO, MAC, get, set, variable, up: calls that are one exchange.
 use call::plain;
-use call::whole;
+use call::variable;
 use jobs::PlainCall;
-use jobs::bytes::at_most;
-use jobs::bytes::variable_begun;
 use turn::CallEnd;
 use wlan::ScanList;
 use wlan::State;
@@ -88,10 +86,7 @@ pub fn write_iovar(
 ) -> CallEnd
     ensures { λ r. ⌜ endOf r (now (log .exit)) (now (buf .exit)) [] ≡ called (Call.writeIovar interface (now (name .entry)) (now (bytes .entry))) (world st (now (buf .entry)) list) (now (rec .entry)) (now (log .entry)) [] ⌝ }
 {
-    let n = at_most(2020, name.len());
-    let m = at_most(2020, bytes.len());
-    let b = variable_begun(interface, name, bytes, st);
-    whole(b, &name[..n], &bytes[..m], st, list, rec, log, buf)
+    variable(interface, name, bytes, st, list, rec, log, buf)
 }
 
 pub fn up(st: State, list: ScanList, rec: &[u32], log: &mut [u32], buf: &mut [u8]) -> CallEnd

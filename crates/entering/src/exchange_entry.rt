@@ -1,88 +1,23 @@
 // The calls that are exchanges.
-use crate::finish;
+use crate::hand;
 use crate::other_length;
-use exchange_call::exchange_run;
 use jobs::PlainCall;
-use jobs::bytes::at_most;
-use run_end::RunEnd;
-use run_end::error_end;
+use runs::exchanges::run_join;
+use runs::exchanges::run_plain;
+use runs::exchanges::run_variable;
 use session_bytes::session::is_session;
-use starting::Start;
-use starting::StartKind;
-use starting::bytes::join_start;
-use starting::bytes::variable_start;
-use starting::plain::plain_start;
-use turning::value_end;
-use undo::keep_front;
 ghost use mathlib.Core.Path.{_≡_};
 ghost use mathlib.Core.Bool.{true, false};
 ghost use mathlib.Core.List.{[]};
-ghost use Prim.Native.Nat.{_+_, _<_};
-ghost use lib.ListN.{length, drop};
-ghost use Rattle.definition.specs.Event.{eventOf};
-ghost use Rattle.definition.specs.Prog.{World};
+ghost use lib.ListN.{length};
 ghost use Rattle.definition.specs.Calls.{Call};
 ghost use Rattle.definition.specs.Run.{called};
-ghost use Rattle.control.specs.Meaning.{lensOf, callShown};
-ghost use Rattle.effects.specs.Args.{argsOf};
 ghost use Rattle.jobs.specs.Jobs.{callOf};
-ghost use Rattle.session_bytes.specs.Session.{isSession, sessionIn};
-ghost use Rattle.turn.specs.Onward.{go};
-ghost use Rattle.starting.specs.Starting.{stepOf, isPoll};
-ghost use Rattle.turning.specs.Turning as turning;
+ghost use Rattle.session_bytes.specs.Session.{isSession};
+ghost use Rattle.starting.specs.Starting.{isPoll};
 ghost use Rattle.turning.specs.Turning.{worldIn};
-ghost use Rattle.undo.specs.Undo.{Kept};
 ghost use Rattle.entry.specs.Entry.{shown, handed};
 ghost use Rattle.entering.specs.Entering as to;
-
-// From a call's beginning to its end.
-fn start_run(
-    x: Start,
-    s: &mut [u8],
-    undo: &mut [u8],
-    rec: &[u32],
-    log: &mut [u32],
-    buf: &mut [u8],
-    first: &[u8],
-    second: &[u8],
-) -> RunEnd
-    requires { ⌜ isSession (now s) ≡ true ⌝ }
-    requires { ⌜ Kept (now undo) ⌝ }
-    requires { ⌜ length (now buf) ≡ 2048 ⌝ }
-    requires { ⌜ length (now first) + length (now second) < 60000 ⌝ }
-    ensures on { λ r. ⌜ ((e : World) → turning.Ends e (go e (drop 0 (now (rec .entry))) (now (log .entry)) 0 (callShown (argsOf (x .job) (now (first .entry)) (now (second .entry))) (stepOf x (lensOf (argsOf (x .job) (now (first .entry)) (now (second .entry)))) (sessionIn (now (s .entry)) .st)) (eventOf [] 0) (worldIn (now (s .entry)) (now (buf .entry))))) r (now (log .exit)) (now (s .exit)) (now (buf .exit))) ⌝ }
-    ensures held { λ _. ⌜ isSession (now (s .exit)) ≡ true ⌝ }
-    ensures kept { λ _. ⌜ turning.KeptAll (now (undo .entry)) (now (undo .exit)) (now (s .entry)) (now (s .exit)) (now (buf .entry)) (now (buf .exit)) ⌝ }
-{
-    let k = x.kind;
-    let j = x.job;
-    let g = x.stage;
-    let error = x.error;
-    match k {
-        StartKind::Exchange => exchange_run(j, g, s, undo, rec, log, buf, first, second),
-        StartKind::Done => value_end(0, 0),
-        StartKind::Refused => error_end(error, 0),
-    }
-}
-
-fn plain_run(
-    c: PlainCall,
-    s: &mut [u8],
-    undo: &mut [u8],
-    rec: &[u32],
-    log: &mut [u32],
-    buf: &mut [u8],
-) -> RunEnd
-    requires { ⌜ isPoll c ≡ false ⌝ }
-    requires { ⌜ isSession (now s) ≡ true ⌝ }
-    requires { ⌜ Kept (now undo) ⌝ }
-    requires { ⌜ length (now buf) ≡ 2048 ⌝ }
-    ensures { λ r. ⌜ to.Runs (callOf c) (now (rec .entry)) (now (log .entry)) (now (log .exit)) (now (undo .entry)) (now (undo .exit)) (now (s .entry)) (now (s .exit)) (now (buf .entry)) (now (buf .exit)) r ⌝ }
-{
-    let x = plain_start(c, s);
-    let none = [0u8; 0];
-    start_run(x, s, undo, rec, log, buf, &none, &none)
-}
 
 fn plain_here(
     c: PlainCall,
@@ -99,9 +34,8 @@ fn plain_here(
     requires { ⌜ length (now buf) ≡ 2048 ⌝ }
     ensures { λ x. ⌜ shown x (now (session .exit)) (now (log .exit)) (now (buf .exit)) [] (now (result .exit)) ≡ handed (now (result .entry)) (called (callOf c) (worldIn (now (session .entry)) (now (buf .entry))) (now (rec .entry)) (now (log .entry)) []) ⌝ }
 {
-    keep_front(undo, session);
-    let r = plain_run(c, session, undo, rec, log, buf);
-    finish(r, session, undo, buf, result)
+    let r = run_plain(c, session, undo, rec, log, buf);
+    hand(r, result)
 }
 
 pub fn plain_entered(
@@ -128,27 +62,6 @@ pub fn plain_entered(
     100
 }
 
-fn join_run(
-    auth: u32,
-    ssid: &[u8],
-    passphrase: &[u8],
-    s: &mut [u8],
-    undo: &mut [u8],
-    rec: &[u32],
-    log: &mut [u32],
-    buf: &mut [u8],
-) -> RunEnd
-    requires { ⌜ isSession (now s) ≡ true ⌝ }
-    requires { ⌜ Kept (now undo) ⌝ }
-    requires { ⌜ length (now buf) ≡ 2048 ⌝ }
-    ensures { λ r. ⌜ to.Runs (Call.wifiConnect auth (now (ssid .entry)) (now (passphrase .entry))) (now (rec .entry)) (now (log .entry)) (now (log .exit)) (now (undo .entry)) (now (undo .exit)) (now (s .entry)) (now (s .exit)) (now (buf .entry)) (now (buf .exit)) r ⌝ }
-{
-    let n = at_most(32, ssid.len());
-    let m = at_most(128, passphrase.len());
-    let x = join_start(auth, ssid, passphrase, s);
-    start_run(x, s, undo, rec, log, buf, &ssid[..n], &passphrase[..m])
-}
-
 fn join_here(
     auth: u32,
     ssid: &[u8],
@@ -165,9 +78,8 @@ fn join_here(
     requires { ⌜ length (now buf) ≡ 2048 ⌝ }
     ensures { λ x. ⌜ shown x (now (session .exit)) (now (log .exit)) (now (buf .exit)) [] (now (result .exit)) ≡ handed (now (result .entry)) (called (Call.wifiConnect auth (now (ssid .entry)) (now (passphrase .entry))) (worldIn (now (session .entry)) (now (buf .entry))) (now (rec .entry)) (now (log .entry)) []) ⌝ }
 {
-    keep_front(undo, session);
-    let r = join_run(auth, ssid, passphrase, session, undo, rec, log, buf);
-    finish(r, session, undo, buf, result)
+    let r = run_join(auth, ssid, passphrase, session, undo, rec, log, buf);
+    hand(r, result)
 }
 
 pub fn join_entered(
@@ -195,27 +107,6 @@ pub fn join_entered(
     100
 }
 
-fn variable_run(
-    interface: u32,
-    name: &[u8],
-    bytes: &[u8],
-    s: &mut [u8],
-    undo: &mut [u8],
-    rec: &[u32],
-    log: &mut [u32],
-    buf: &mut [u8],
-) -> RunEnd
-    requires { ⌜ isSession (now s) ≡ true ⌝ }
-    requires { ⌜ Kept (now undo) ⌝ }
-    requires { ⌜ length (now buf) ≡ 2048 ⌝ }
-    ensures { λ r. ⌜ to.Runs (Call.writeIovar interface (now (name .entry)) (now (bytes .entry))) (now (rec .entry)) (now (log .entry)) (now (log .exit)) (now (undo .entry)) (now (undo .exit)) (now (s .entry)) (now (s .exit)) (now (buf .entry)) (now (buf .exit)) r ⌝ }
-{
-    let n = at_most(2020, name.len());
-    let m = at_most(2020, bytes.len());
-    let x = variable_start(interface, name, bytes);
-    start_run(x, s, undo, rec, log, buf, &name[..n], &bytes[..m])
-}
-
 fn variable_here(
     interface: u32,
     name: &[u8],
@@ -232,9 +123,8 @@ fn variable_here(
     requires { ⌜ length (now buf) ≡ 2048 ⌝ }
     ensures { λ x. ⌜ shown x (now (session .exit)) (now (log .exit)) (now (buf .exit)) [] (now (result .exit)) ≡ handed (now (result .entry)) (called (Call.writeIovar interface (now (name .entry)) (now (bytes .entry))) (worldIn (now (session .entry)) (now (buf .entry))) (now (rec .entry)) (now (log .entry)) []) ⌝ }
 {
-    keep_front(undo, session);
-    let r = variable_run(interface, name, bytes, session, undo, rec, log, buf);
-    finish(r, session, undo, buf, result)
+    let r = run_variable(interface, name, bytes, session, undo, rec, log, buf);
+    hand(r, result)
 }
 
 pub fn variable_entered(

@@ -1,9 +1,8 @@
 // `poll`.
-use crate::finish;
+use crate::hand;
 use crate::other_length;
-use poll_call::poll_run;
+use runs::polling::run_poll;
 use session_bytes::session::is_session;
-use undo::keep_front;
 ghost use mathlib.Core.Path.{_≡_};
 ghost use mathlib.Core.Bool.{true};
 ghost use mathlib.Core.List.{[]};
@@ -28,9 +27,8 @@ fn poll_here(
     requires { ⌜ length (now buf) ≡ 2048 ⌝ }
     ensures { λ x. ⌜ shown x (now (session .exit)) (now (log .exit)) (now (buf .exit)) [] (now (result .exit)) ≡ handed (now (result .entry)) (called Call.wifiPoll (worldIn (now (session .entry)) (now (buf .entry))) (now (rec .entry)) (now (log .entry)) []) ⌝ }
 {
-    keep_front(undo, session);
-    let r = poll_run(session, undo, rec, log, buf);
-    finish(r, session, undo, buf, result)
+    let r = run_poll(session, undo, rec, log, buf);
+    hand(r, result)
 }
 
 pub fn poll_entered(

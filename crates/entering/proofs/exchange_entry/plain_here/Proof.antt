@@ -1,49 +1,56 @@
-use mathlib.Core.Path.{_∙_}
-use native.Mathlib.Omega.{arith}
-use Rattle.session_bytes.proofs.Laws.{session-length}
+-- <<
+use mathlib.Core.List.{[]}
+use Rattle.jobs.specs.Jobs.{callOf}
+use Rattle.definition.specs.Run.{called}
+use Rattle.turning.specs.Turning.{worldIn}
+use Rattle.entering.proofs.Laws.{handed-end}
+-- >>
 use borrow.Author.Needs.{needs}
 use Rattle.entering.proofs.exchange_entry.plain_here.Statement.{statement}
 use Rattle.entering.proofs.exchange_entry.plain_here.Tie as tie
 use Rattle.entering.proofs.exchange_entry.plain_here.Reads as reads
 use Rattle.entering.proofs.exchange_entry.plain_here.Lts as lts
-use Rattle.entering.proofs.exchange_entry.plain_run.Reads as plain-run-reads
-use Rattle.entering.proofs.finish.Reads as finish-reads
-use Rattle.undo.proofs.keep_front.Reads as keep-front-reads
+use Rattle.entering.proofs.hand.Reads as hand-reads
+use Rattle.runs.proofs.exchanges.run_plain.Reads as run-plain-reads
 
-keep-front-requires : tie.Need-keep-front-requires
-keep-front-requires c κs = (c .before .before .before .before .before .before .before .before .pre .1 .1 .0, session-length (c .before .before .before .before .before .before .before .before .args .session .now) (c .before .before .before .before .before .before .before .before .pre .1 .0))
+-- src/exchange_entry.rt:37:9
+run-plain-requires : tie.Need-run-plain-requires
+run-plain-requires c κs = search needs
 
-plain-run-requires : tie.Need-plain-run-requires
-plain-run-requires c κs = (c .before .before .before .before .before .before .before .before .before .before .before .before .before .before .before .pre .0, (c .before .before .before .before .before .before .before .before .before .before .before .before .before .before .before .pre .1 .0, (c .before .before .before .before .before .before .keep-front .ensures .0, c .before .before .before .before .before .before .before .before .before .before .before .before .before .before .before .pre .1 .1 .1)))
+-- src/exchange_entry.rt:38:5
+hand-requires : tie.Need-hand-requires
+hand-requires c κs = search needs
 
-finish-requires : tie.Need-finish-requires
-finish-requires c κs = (c .before .before .before .before .before .before .before .before .before .before .before .before .plain-run .ensures .kept .kept, (c .before .before .before .before .before .before .before .before .before .before .before .before .plain-run .ensures .held, omega (arith, c .before .before .before .before .before .before .before .before .before .before .before .before .before .before .before .before .before .before .before .before .before .before .before .before .before .before .before .before .pre .1 .1 .1)))
-
+-- src/exchange_entry.rt:22:1
 same-length : tie.Need-same-length
 same-length c = search needs
 
+-- src/exchange_entry.rt:22:1
 same-length-2 : tie.Need-same-length-2
 same-length-2 c = search needs
 
+-- src/exchange_entry.rt:22:1
 same-length-3 : tie.Need-same-length-3
 same-length-3 c = search needs
 
+-- src/exchange_entry.rt:22:1
 same-length-4 : tie.Need-same-length-4
 same-length-4 c = search needs
 
+-- src/exchange_entry.rt:22:1
 same-length-5 : tie.Need-same-length-5
 same-length-5 c = search needs
 
+-- src/exchange_entry.rt:22:1
 returns : tie.Need-returns
-returns c = c .before .before .before .before .before .before .finish .ensures (c .before .before .before .before .before .before .before .before .before .before .before .before .before .before .before .before .before .before .before .before .before .before .before .before .before .before .before .before .before .before .before .before .before .before .before .args .session .now) _ (c .before .before .before .before .before .before .before .before .before .before .before .before .before .before .before .before .before .before .before .before .before .before .before .before .before .before .before .before .before .before .before .before .before .before .before .args .buf .now) _ (c .before .before .before .before .before .before .before .before .before .before .before .before .before .before .before .before .before .before .before .before .before .before .before .before .before .before .before .before .before .before .before .before .before .before .before .pre .1 .0) (c .before .before .before .before .before .before .before .before .before .before .before .before .before .before .before .before .before .before .before .plain-run .ensures .kept .session ∙ c .before .before .before .before .before .before .before .before .before .before .before .before .before .before .before .before .before .before .before .before .before .before .before .before .before .before .keep-front .ensures .3) (c .before .before .before .before .before .before .before .before .before .before .before .before .before .before .before .before .before .before .before .plain-run .ensures .kept .buf ∙ c .before .before .before .before .before .before .before .before .before .before .before .before .before .before .before .before .before .before .before .before .before .before .before .before .before .before .keep-front .ensures .4 (c .before .before .before .before .before .before .before .before .before .before .before .before .before .before .before .before .before .before .before .before .before .before .before .before .before .before .before .before .before .before .before .before .before .before .before .args .buf .now)) (c .before .before .before .before .before .before .before .before .before .before .before .before .before .before .before .before .before .before .before .plain-run .ensures .ends)
+returns c = handed-end (called (callOf (c .before .before .before .before .before .before .before .before .before .before .before .before .before .before .before .before .before .before .before .before .before .before .before .args .c)) (worldIn (c .before .before .before .before .before .before .before .before .before .before .before .before .before .before .before .before .before .before .before .before .before .before .before .args .session .now) (c .before .before .before .before .before .before .before .before .before .before .before .before .before .before .before .before .before .before .before .before .before .before .before .args .buf .now)) (c .before .before .before .before .before .before .before .before .before .before .before .before .before .before .before .before .before .before .before .before .before .before .before .args .rec .now) (c .before .before .before .before .before .before .before .before .before .before .before .before .before .before .before .before .before .before .before .before .before .before .before .args .log .now) []) (c .before .before .before .before .before .before .before .before .before .before .before .before .run-plain .result) (c .before .before .before .before .before .before .before .before .before .before .before .before .before .before .before .before .before .before .before .before .before .before .before .args .result .now) _ _ _ _ _ (c .before .before .before .before .before .before .before .before .before .before .before .before .run-plain .ensures) (c .before .before .hand .ensures .0) (c .before .before .hand .ensures .1)
 
 pub plain-here-spec : {M : Type 1} → statement M
 plain-here-spec =
     tie.close
     (tie.spec
-    keep-front-requires
-    plain-run-requires
-    finish-requires
+    run-plain-requires
+    hand-requires
     same-length
     same-length-2
     same-length-3
