@@ -18,7 +18,7 @@ use Rattle.bus.specs.Op.{opOf}
 use Rattle.device.specs.Meaning as device
 use Rattle.device.specs.Meaning.{opIn, asking}
 use Rattle.effects.specs.Answer.{answerIn, isWait}
-use Rattle.turn.specs.Onward.{go, finish}
+use Rattle.going.specs.Onward.{go, finish}
 use Rattle.undo.specs.Undo.{Kept, recordsKept, backSession, backBuf}
 use Rattle.asking.specs.declared.Asked.{Asked}
 use Rattle.asking.specs.declared.Back.{Back}

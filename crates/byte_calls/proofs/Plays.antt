@@ -15,8 +15,8 @@ use Rattle.definition.specs.Prog.{World, world}
 use Rattle.definition.specs.Calls.{Call}
 use Rattle.definition.specs.Run.{End, called}
 use Rattle.definition.specs.Player.{Arguments, callWith, badArguments, nameLength, joinOf, variableOf, argumentsOf, emptyLog, playedCall, lineOf, one, nextCall, playFrom}
-use Rattle.turn.specs.declared.CallEnd.{CallEnd}
-use Rattle.turn.specs.Onward.{endOf}
+use Rattle.going.specs.declared.CallEnd.{CallEnd}
+use Rattle.going.specs.Onward.{endOf}
 use Rattle.lines.specs.Input.{outputLength, Plain, complete}
 use Rattle.byte_calls.specs.Play.{callEnd, worldAfter, Fronts}
 use Rattle.lines.specs.Text.{textOf}

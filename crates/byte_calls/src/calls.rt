@@ -1,5 +1,5 @@
 // The fourteen calls with their arguments as bytes. Numbers are le words.
-use turn::CallEnd;
+use going::CallEnd;
 use wlan::DriverError;
 use wlan::Outcome;
 use wlan::Refusal;
@@ -12,7 +12,7 @@ ghost use Prim.Native.Nat.{ℕ};
 ghost use lib.ListN.{replicate};
 ghost use Rattle.definition.specs.Prog.{world};
 ghost use Rattle.definition.specs.Player.{nameLength, joinOf, variableOf, argumentsOf, playedCall, badArguments};
-ghost use Rattle.turn.specs.Onward.{endOf};
+ghost use Rattle.going.specs.Onward.{endOf};
 ghost use Rattle.lines.specs.Input.{outputLength, complete, Plain};
 
 // Bad arguments: nothing is changed.

@@ -14,8 +14,8 @@ use Rattle.definition.specs.Run.{End, called}
 use Rattle.session_bytes.specs.declared.session.Session.{Session}
 use Rattle.session_bytes.specs.Session.{sessionBytes, sessionIn, isSession}
 use Rattle.run_end.specs.declared.RunEnd.{RunEnd}
-use Rattle.turn.specs.declared.CallEnd.{CallEnd}
-use Rattle.turn.specs.Onward.{endOf}
+use Rattle.going.specs.declared.CallEnd.{CallEnd}
+use Rattle.going.specs.Onward.{endOf}
 use Rattle.turning.specs.Turning.{worldIn}
 use Rattle.runs.specs.Runs.{Left, Ran}
 use Rattle.runs.proofs.Called.{called-13}

@@ -1,4 +1,5 @@
 // A call by value: state and scan list go into a session's bytes, the call runs on them, and they are read from the bytes again.
+use going::CallEnd;
 use jobs::PlainCall;
 use run_end::RunEnd;
 use run_end::outcome::outcome_of;
@@ -11,7 +12,6 @@ use session_bytes::session::Session;
 use session_bytes::session::list_of;
 use session_bytes::session::put_session;
 use session_bytes::session::state_in;
-use turn::CallEnd;
 use wlan::Outcome;
 use wlan::Refusal;
 use wlan::ScanList;
@@ -29,7 +29,7 @@ ghost use Rattle.definition.specs.Run.{End, called};
 ghost use Rattle.jobs.specs.Jobs.{callOf};
 ghost use Rattle.session_bytes.specs.Session.{isSession};
 ghost use Rattle.starting.specs.Starting.{isPoll};
-ghost use Rattle.turn.specs.Onward.{endOf};
+ghost use Rattle.going.specs.Onward.{endOf};
 ghost use Rattle.runs.specs.Runs.{Left};
 
 // What the run left in the bytes s.

@@ -2,8 +2,8 @@
 use call::join;
 use call::plain;
 use call::poll;
+use going::CallEnd;
 use jobs::PlainCall;
-use turn::CallEnd;
 use wlan::ScanList;
 use wlan::State;
 ghost use mathlib.Core.Path.{_≡_};
@@ -11,7 +11,7 @@ ghost use mathlib.Core.List.{[]};
 ghost use Rattle.definition.specs.Prog.{world};
 ghost use Rattle.definition.specs.Calls.{Call};
 ghost use Rattle.definition.specs.Run.{called};
-ghost use Rattle.turn.specs.Onward.{endOf};
+ghost use Rattle.going.specs.Onward.{endOf};
 
 pub fn wifi_init(
     country: u32,

@@ -1,8 +1,8 @@
 // send and take.
 use call::send;
 use ending::take::take;
-use ending::wind::with_list;
-use turn::CallEnd;
+use ending::take::with_list;
+use going::CallEnd;
 use wlan::ScanList;
 use wlan::State;
 ghost use mathlib.Core.Path.{_≡_};
@@ -12,7 +12,7 @@ ghost use lib.ListN.{length};
 ghost use Rattle.definition.specs.Prog.{world};
 ghost use Rattle.definition.specs.Calls.{Call};
 ghost use Rattle.definition.specs.Run.{called};
-ghost use Rattle.turn.specs.Onward.{endOf};
+ghost use Rattle.going.specs.Onward.{endOf};
 
 pub fn send_data(
     interface: u32,

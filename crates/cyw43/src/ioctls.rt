@@ -1,8 +1,8 @@
 // GPIO, MAC, get, set, variable, up: calls that are one exchange.
 use call::plain;
 use call::variable;
+use going::CallEnd;
 use jobs::PlainCall;
-use turn::CallEnd;
 use wlan::ScanList;
 use wlan::State;
 ghost use mathlib.Core.Path.{_≡_};
@@ -10,7 +10,7 @@ ghost use mathlib.Core.List.{[]};
 ghost use Rattle.definition.specs.Prog.{world};
 ghost use Rattle.definition.specs.Calls.{Call};
 ghost use Rattle.definition.specs.Run.{called};
-ghost use Rattle.turn.specs.Onward.{endOf};
+ghost use Rattle.going.specs.Onward.{endOf};
 
 pub fn gpio_set(
     pin: u32,

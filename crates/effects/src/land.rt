@@ -45,22 +45,6 @@ pub fn land(buf: &mut [u8], op: BusOp, x: BusAnswer, rec: &[u32], pos: usize)
     }
 }
 
-pub fn is_wait(op: BusOp) -> bool
-    ensures { λ r. ⌜ r ≡ isWait op ⌝ }
-{
-    match op {
-        BusOp::ReadInterrupt => false,
-        BusOp::ReadStatus => false,
-        BusOp::ReadPacket(_) => false,
-        BusOp::ReadClock => false,
-        BusOp::ReadTick => false,
-        BusOp::WritePacket(_) => false,
-        BusOp::WriteInterrupt(_) => false,
-        BusOp::FrameControl => false,
-        BusOp::Wait(_) => true,
-    }
-}
-
 // A value is as wide as what was read: a recorded status is a word. By the recording's rule a fault answers a wait too.
 pub fn in_range(op: BusOp, x: BusAnswer, rec: &[u32], pos: usize)
     requires { ⌜ isWait op ≡ false ⌝ }

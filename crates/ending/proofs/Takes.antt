@@ -19,8 +19,8 @@ use Rattle.definition.specs.Bus.{Bytes, logOf, answers}
 use Rattle.definition.specs.Prog.{World, ret, stop}
 use Rattle.definition.specs.Calls.{Call, call, taken, frameless}
 use Rattle.definition.specs.Run.{shown, run, finished, called, runOf}
-use Rattle.turn.specs.Onward.{endOf, withList}
-use Rattle.turn.proofs.Going.{run-ret, run-stop}
+use Rattle.going.specs.Onward.{endOf, withList}
+use Rattle.going.proofs.Going.{run-ret, run-stop}
 use Rattle.ending.specs.Take.{ended, driverError, framelessState, frameTaken}
 
 module _ (w : World) (rec log : List ℕ) (out : Bytes) where

@@ -16,8 +16,8 @@ use Rattle.wlan.specs.declared.State.{State}
 use Rattle.definition.specs.Bus.{Bytes}
 use Rattle.definition.specs.Prog.{World}
 use Rattle.definition.specs.Run.{End}
-use Rattle.turn.specs.declared.StateEnd.{StateEnd}
-use Rattle.turn.specs.Onward.{endOf, withList}
+use Rattle.going.specs.declared.StateEnd.{StateEnd}
+use Rattle.going.specs.Onward.{endOf, withList}
 
 abbrev pub ended : Outcome → State → StateEnd
 ended o s = record { outcome = o; st = s; len = 0 }

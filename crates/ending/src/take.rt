@@ -1,10 +1,12 @@
 // take, which asks nothing of the bus and leaves the scan list.
-use turn::StateEnd;
+use going::CallEnd;
+use going::StateEnd;
 use wlan::DriverError;
 use wlan::Outcome;
 use wlan::PendingBuf;
 use wlan::PendingRx;
 use wlan::Refusal;
+use wlan::ScanList;
 use wlan::State;
 use wlan::Success;
 use wlan::setters::set_frame;
@@ -17,8 +19,21 @@ ghost use Rattle.wlan.specs.declared.ScanList as list;
 ghost use Rattle.definition.specs.Prog.{world};
 ghost use Rattle.definition.specs.Calls.{Call};
 ghost use Rattle.definition.specs.Run.{called};
-ghost use Rattle.turn.specs.Onward.{endOf, withList};
+ghost use Rattle.going.specs.Onward.{endOf, withList};
 ghost use Rattle.ending.specs.Take as to;
+
+pub fn with_list(e: StateEnd, list: ScanList) -> CallEnd
+    ensures { λ r. ⌜ r ≡ withList e list ⌝ }
+{
+    let outcome = e.outcome;
+    let st = e.st;
+    CallEnd {
+        outcome: outcome,
+        st: st,
+        list: list,
+        len: e.len,
+    }
+}
 
 fn ended(o: Outcome, st: State) -> StateEnd
     ensures { λ r. ⌜ r ≡ to.ended o st ⌝ }

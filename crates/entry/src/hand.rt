@@ -1,6 +1,6 @@
 // What an entry hands back.
+use going::StateEnd;
 use session_bytes::session::put_state_in;
-use turn::StateEnd;
 use wlan::numbers::refusal_of;
 use wlan::numbers::value_of;
 ghost use mathlib.Core.Path.{_≡_};
@@ -9,7 +9,7 @@ ghost use mathlib.Core.List.{List, [], _∷_};
 ghost use Prim.Native.Nat.{ℕ};
 ghost use Rattle.slices.specs.Over.{over};
 ghost use Rattle.session_bytes.specs.Session.{sessionIn, isSession};
-ghost use Rattle.turn.specs.Onward.{endOf, withList};
+ghost use Rattle.going.specs.Onward.{endOf, withList};
 ghost use Rattle.entry.specs.Entry.{shown, handed};
 
 fn put_number(result: &mut [u64], i: usize, n: u64)

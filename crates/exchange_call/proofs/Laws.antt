@@ -30,8 +30,8 @@ use Rattle.control.proofs.Bridge.{call-is}
 use Rattle.control.proofs.StageBridge.{Modest}
 use Rattle.effects.specs.Answer.{isWait}
 use Rattle.session_bytes.specs.Session.{isSession, sessionIn}
-use Rattle.turn.specs.Onward.{go}
-use Rattle.turn.proofs.Going.{go-unroll}
+use Rattle.going.specs.Onward.{go}
+use Rattle.going.proofs.Going.{go-unroll}
 use Rattle.exchanging.specs.declared.now.CallNow.{CallNow}
 use Rattle.exchanging.specs.declared.now.CallKind.{CallKind}
 use Rattle.replying.specs.Replying.{pointOf}

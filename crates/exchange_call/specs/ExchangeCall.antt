@@ -16,7 +16,7 @@ use Rattle.control.specs.Steps.{callOp}
 use Rattle.control.specs.Meaning.{Args, Kc, callTree}
 use Rattle.effects.specs.Args.{argsOf}
 use Rattle.session_bytes.specs.Session.{isSession}
-use Rattle.turn.specs.Onward.{go}
+use Rattle.going.specs.Onward.{go}
 use Rattle.asking.specs.declared.Asked.{Asked}
 use Rattle.asking.specs.Asking.{answerOf}
 use Rattle.exchanging.specs.declared.now.CallNow.{CallNow}

@@ -35,7 +35,7 @@ ghost use Rattle.control.specs.Meaning.{Args, lensOf, callTree, callShown, succ
 ghost use Rattle.effects.specs.Args.{argsOf};
 ghost use Rattle.control.specs.Begin.{exchangesStep};
 ghost use Rattle.session_bytes.specs.Session.{isSession, sessionIn};
-ghost use Rattle.turn.specs.Onward.{go};
+ghost use Rattle.going.specs.Onward.{go};
 ghost use Rattle.undo.specs.Undo.{Kept};
 ghost use Rattle.asking.specs.Asking.{Asks, Grew};
 ghost use Rattle.control.specs.Steps.{callOp};

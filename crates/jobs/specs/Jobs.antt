@@ -25,7 +25,6 @@ use Rattle.control.specs.Steps.{refuses}
 use Rattle.control.specs.Begin.{exchangesStep}
 use Rattle.control.specs.Meaning.{Args, callShown}
 use Rattle.effects.specs.Args.{argsOf}
-use Rattle.jobs.specs.declared.Begun.{Begun}
 use Rattle.jobs.specs.declared.PlainCall.{PlainCall}
 
 abbrev jobOf : ℕ → WifiAuth → Bool → Bool → ℕ → Request → Ending → Job
@@ -54,6 +53,11 @@ plain j = argsOf j [] []
 
 abbrev pub noLens : Lens
 noLens = record { first = 0; second = 0 }
+
+-- a call's job and its first step
+pub record Begun : Type 0 where
+  pub job : Job
+  pub step : CallStep
 
 abbrev begun : Job → CallStep → Begun
 begun j s = record { job = j; step = s }

@@ -1,7 +1,6 @@
 // What a call hands to the run beside its byte arguments.
 use control::Ending;
 use control::Job;
-use control::Lens;
 use requests::Request;
 use wlan::WifiAuth;
 ghost use mathlib.Core.Path.{_≡_};
@@ -56,26 +55,10 @@ pub fn join_job(auth: WifiAuth, long_passphrase: bool, long_ssid: bool) -> Job
     }
 }
 
-pub fn frame_job(len: usize) -> Job
-    requires { ⌜ len ≤ 2030 ⌝ }
-    ensures { λ j. ⌜ j ≡ to.frameJob len ⌝ }
+// n where it is at most max, else 0: a longer argument is refused without being used.
+pub fn at_most(max: usize, n: usize) -> usize
+    ensures cut { λ r. ⌜ r ≡ to.cut max n ⌝ }
+    ensures most { λ r. ⌜ (n ≤ max → r ≡ n) × (r ≤ max) × (r ≤ n) ⌝ }
 {
-    Job {
-        country: 0,
-        auth: WifiAuth::Open,
-        long_passphrase: false,
-        long_ssid: false,
-        size: 18 + len as u16,
-        request: Request::Up,
-        ending: Ending::Done,
-    }
-}
-
-pub fn no_lens() -> Lens
-    ensures { λ l. ⌜ l ≡ to.noLens ⌝ }
-{
-    Lens {
-        first: 0,
-        second: 0,
-    }
+    if n <= max { n } else { 0 }
 }

@@ -1,15 +1,5 @@
-// How each call begins: its job and its first step, by value. Of byte arguments only the lengths are looked at.
-pub mod bytes;
+// What a call is beside its byte arguments. How each call begins is in specs/Jobs.antt.
 pub mod jobs;
-pub mod plain;
-
-use control::CallStep;
-use control::Job;
-
-pub struct Begun {
-    pub job: Job,
-    pub step: CallStep,
-}
 
 // A call without byte arguments, with its numbers.
 pub enum PlainCall {

@@ -13,8 +13,8 @@ use Rattle.wlan.specs.declared.State.{State}
 use Rattle.definition.specs.Prog.{world}
 use Rattle.definition.specs.Calls.{Call}
 use Rattle.definition.specs.Run.{End, shown}
-use Rattle.turn.specs.declared.CallEnd.{CallEnd}
-use Rattle.turn.specs.Onward.{endOf}
+use Rattle.going.specs.declared.CallEnd.{CallEnd}
+use Rattle.going.specs.Onward.{endOf}
 use Rattle.scan_table.specs.Table.{emptyRecords, listOf, laid}
 use Rattle.scan_table.proofs.Laws.{laid-back, all-laid}
 use Rattle.lent.specs.declared.call.LentEnd.{LentEnd}

@@ -13,8 +13,8 @@ use Rattle.definition.specs.Bus.{logOf}
 use Rattle.definition.specs.Prog.{World}
 use Rattle.definition.specs.Calls.{Call}
 use Rattle.definition.specs.Run.{called, shown}
-use Rattle.turn.specs.declared.CallEnd.{CallEnd}
-use Rattle.turn.specs.Onward.{endOf}
+use Rattle.going.specs.declared.CallEnd.{CallEnd}
+use Rattle.going.specs.Onward.{endOf}
 use Rattle.lent.specs.declared.call.WifiCall.{WifiCall}
 use Rattle.lent.specs.Lent.{callOf, hasOutput, outputOf, calledOn}
 

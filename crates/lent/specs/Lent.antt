@@ -11,7 +11,7 @@ use Rattle.definition.specs.Bus.{Bytes}
 use Rattle.definition.specs.Prog.{World}
 use Rattle.definition.specs.Calls.{Call}
 use Rattle.definition.specs.Run.{End, called, shown, rolledBack}
-use Rattle.turn.specs.declared.CallEnd.{CallEnd}
+use Rattle.going.specs.declared.CallEnd.{CallEnd}
 use Rattle.scan_table.specs.Table.{listOf}
 use Rattle.lent.specs.declared.call.WifiCall.{WifiCall}
 use Rattle.lent.specs.declared.call.LentEnd.{LentEnd}

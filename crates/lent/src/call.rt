@@ -1,5 +1,5 @@
 // A call as a value, and its run on a list by value.
-use turn::CallEnd;
+use going::CallEnd;
 use wlan::Outcome;
 use wlan::Refusal;
 use wlan::ScanList;
@@ -9,7 +9,7 @@ ghost use lib.ListN.{length};
 ghost use Rattle.slices.specs.Pick.{pick};
 ghost use Rattle.definition.specs.Prog.{world};
 ghost use Rattle.definition.specs.Run.{called};
-ghost use Rattle.turn.specs.Onward.{endOf};
+ghost use Rattle.going.specs.Onward.{endOf};
 ghost use Rattle.lent.specs.Lent.{callOf, hasOutput, outputOf, calledOn};
 
 // A call with its numbers. The bytes that it takes are lent beside it: SSID and passphrase, a frame, a variable's name and data.

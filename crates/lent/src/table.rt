@@ -12,7 +12,7 @@ ghost use mathlib.Core.Path.{_≡_};
 ghost use lib.ListN.{length};
 ghost use Rattle.slices.specs.Pick.{pick};
 ghost use Rattle.definition.specs.Prog.{world};
-ghost use Rattle.turn.specs.Onward.{endOf};
+ghost use Rattle.going.specs.Onward.{endOf};
 ghost use Rattle.scan_table.specs.Table.{listOf};
 ghost use Rattle.lent.specs.Lent.{callOf, hasOutput, outputOf, calledOn, withList};
 

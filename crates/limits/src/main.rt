@@ -2,7 +2,7 @@
 use cyw43::fresh::fresh_list;
 use cyw43::fresh::fresh_state;
 use cyw43::ioctls::up;
-use turn::CallEnd;
+use going::CallEnd;
 use wlan::Sdpcm;
 use wlan::numbers::refusal_of;
 ghost use mathlib.Core.Path.{_≡_};

@@ -1,7 +1,7 @@
 // A call's further line.
+use going::CallEnd;
 use shown::show;
 use shown::sum;
-use turn::CallEnd;
 use wlan::ScanList;
 use wlan::State;
 

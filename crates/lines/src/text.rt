@@ -1,6 +1,6 @@
 // What the player prints of a call, as bytes.
+use going::CallEnd;
 use state_bytes::numbers::state_number;
-use turn::CallEnd;
 use wlan::numbers::refusal_of;
 use wlan::numbers::value_of;
 ghost use mathlib.Core.Path.{_≡_};
@@ -10,7 +10,7 @@ ghost use lib.ListN.{length, take};
 ghost use Rattle.slices.specs.Over.{over};
 ghost use Rattle.definition.specs.Player.{lineOf};
 ghost use Rattle.definition.specs.Player.{numbers as Player·numbers};
-ghost use Rattle.turn.specs.Onward.{endOf};
+ghost use Rattle.going.specs.Onward.{endOf};
 ghost use Rattle.lines.specs.Text.{decimal, hex, rowOf, wordsOf, textOf};
 
 // Call, refusal, value, state, sequence, credit, flow, id, log words.

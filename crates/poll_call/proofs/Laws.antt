@@ -35,8 +35,8 @@ use Rattle.session_bytes.specs.Session.{isSession, sessionIn, withState}
 use Rattle.places.specs.Places.{Holds}
 use Rattle.receive.specs.Receive.{pointOf}
 use Rattle.receive.specs.declared.polled.PollAt.{PollAt}
-use Rattle.turn.specs.Onward.{go}
-use Rattle.turn.proofs.Going.{go-unroll}
+use Rattle.going.specs.Onward.{go}
+use Rattle.going.proofs.Going.{go-unroll}
 use Rattle.undo.specs.Undo.{Kept, backSession}
 use Rattle.polls.specs.declared.PollNow.{PollNow}
 use Rattle.polls.specs.Polls.{Gives, NextIs, Quiet, Reports, Stepped, listed}

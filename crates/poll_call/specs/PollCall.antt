@@ -17,7 +17,7 @@ use Rattle.jobs.specs.Jobs.{noJob}
 use Rattle.session_bytes.specs.Session.{isSession}
 use Rattle.receive.specs.Receive.{pointOf}
 use Rattle.receive.specs.declared.polled.PollAt.{PollAt}
-use Rattle.turn.specs.Onward.{go}
+use Rattle.going.specs.Onward.{go}
 use Rattle.undo.specs.Undo.{Kept, backSession}
 use Rattle.asking.specs.declared.Asked.{Asked}
 use Rattle.asking.specs.Asking.{Asks, Grew}

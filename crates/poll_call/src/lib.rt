@@ -32,7 +32,7 @@ ghost use Rattle.control.specs.declared.CallPoint as point;
 ghost use Rattle.control.specs.Meaning.{callTree, Kc};
 ghost use Rattle.session_bytes.specs.Session.{isSession, sessionIn};
 ghost use Rattle.receive.specs.Receive.{pointOf};
-ghost use Rattle.turn.specs.Onward.{go};
+ghost use Rattle.going.specs.Onward.{go};
 ghost use Rattle.undo.specs.Undo.{Kept, backSession, backBuf};
 ghost use Rattle.polls.specs.Polls.{NextIs};
 ghost use Rattle.turning.specs.Turning as turning;

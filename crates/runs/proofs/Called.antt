@@ -14,10 +14,9 @@ use Rattle.definition.specs.Calls.{Call, call}
 use Rattle.definition.specs.Run.{called, runOf}
 use Rattle.control.specs.Meaning.{callShown}
 use Rattle.effects.specs.Args.{argsOf}
-use Rattle.jobs.specs.declared.Begun.{Begun}
-use Rattle.jobs.specs.Jobs.{Begins}
-use Rattle.turn.specs.Onward as to
-use Rattle.turn.proofs.TurnLaws as law
+use Rattle.jobs.specs.Jobs.{Begun, Begins}
+use Rattle.going.specs.Onward as to
+use Rattle.going.proofs.Laws as law
 
 called-is : (c : Call) (w : World) (rec log : List ℕ) → to.calledBy w rec log (call c w) ≡ called c w rec log []
 unfolding to.calledBy called runOf

@@ -40,7 +40,7 @@ use Rattle.starting.specs.declared.Start.{Start}
 use Rattle.starting.specs.Starting.{stepOf, Starts}
 use Rattle.places.specs.Places.{Holds}
 use Rattle.effects.specs.Args.{argsOf}
-use Rattle.turn.specs.Onward.{go}
+use Rattle.going.specs.Onward.{go}
 use Rattle.poll_call.specs.PollCall.{noArgs}
 use Rattle.run_end.specs.declared.RunEnd.{RunEnd}
 use Rattle.run_end.specs.RunEnd as ending

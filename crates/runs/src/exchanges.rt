@@ -2,7 +2,7 @@
 use crate::settle;
 use exchange_call::exchange_run;
 use jobs::PlainCall;
-use jobs::bytes::at_most;
+use jobs::jobs::at_most;
 use run_end::RunEnd;
 use run_end::done_end;
 use run_end::error_end;
@@ -24,7 +24,7 @@ ghost use Rattle.control.specs.Meaning.{lensOf, callShown};
 ghost use Rattle.effects.specs.Args.{argsOf};
 ghost use Rattle.jobs.specs.Jobs.{callOf};
 ghost use Rattle.session_bytes.specs.Session.{isSession, sessionIn};
-ghost use Rattle.turn.specs.Onward.{go};
+ghost use Rattle.going.specs.Onward.{go};
 ghost use Rattle.starting.specs.Starting.{stepOf, isPoll};
 ghost use Rattle.turning.specs.Turning as turning;
 ghost use Rattle.turning.specs.Turning.{worldIn};

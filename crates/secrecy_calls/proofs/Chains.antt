@@ -17,9 +17,9 @@ use Rattle.definition.specs.Prog.{World, Prog, ret, stop}
 use Rattle.definition.specs.Poll.{Result}
 use Rattle.definition.specs.Calls.{Call, call, taken}
 use Rattle.definition.specs.Run.{Run, run, rolledBack, End, shown, runOf, called}
-use Rattle.turn.specs.declared.CallEnd.{CallEnd}
-use Rattle.turn.specs.Onward as onward
-use Rattle.turn.proofs.Going.{run-ret, run-stop}
+use Rattle.going.specs.declared.CallEnd.{CallEnd}
+use Rattle.going.specs.Onward as onward
+use Rattle.going.proofs.Going.{run-ret, run-stop}
 use Rattle.secrecy.specs.Secrecy.{Given, endOf}
 use Rattle.secrecy_calls.specs.CallsSecrecy.{Lent, Entry, Exit, Ran, wifiInit, wifiScan, wifiConnect, wifiDisconnect, wifiAbortConnect, wifiPoll, sendData, getRxBuf, gpioSet, getMacAddr, getIoctl, setIoctl, writeIovar, up, after, Chain, none, more}
 

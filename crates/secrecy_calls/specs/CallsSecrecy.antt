@@ -13,8 +13,8 @@ use Rattle.definition.specs.Bus.{Bytes, Op, logOf}
 use Rattle.definition.specs.Prog.{World, world}
 use Rattle.definition.specs.Calls.{Call}
 use Rattle.definition.specs.Run.{End}
-use Rattle.turn.specs.declared.CallEnd.{CallEnd}
-use Rattle.turn.specs.Onward.{endOf}
+use Rattle.going.specs.declared.CallEnd.{CallEnd}
+use Rattle.going.specs.Onward.{endOf}
 use Rattle.secrecy.specs.Secrecy.{Given, Same, Seen, blot, historyOf, history, Every, Came, Idle}
 use Rattle.cyw43.proofs.fresh.fresh_state.Reads as fresh-state
 use Rattle.cyw43.proofs.calls.wifi_init.Reads as wifi-init

@@ -46,8 +46,8 @@ use Rattle.control.proofs.Bridge.{call-is}
 use Rattle.effects.specs.Answer.{isWait}
 use Rattle.session_bytes.specs.Session.{isSession, sessionIn, withState}
 use Rattle.places.specs.Places.{Holds}
-use Rattle.turn.specs.Onward.{go}
-use Rattle.turn.proofs.Going.{go-unroll}
+use Rattle.going.specs.Onward.{go}
+use Rattle.going.proofs.Going.{go-unroll}
 use Rattle.undo.specs.Undo.{Kept, keptOf, backSession, backBuf}
 use Rattle.undo.proofs.Laws.{buf-changed}
 use Rattle.undo.proofs.Parts.{drop-over-past}

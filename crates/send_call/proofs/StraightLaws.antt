@@ -27,7 +27,7 @@ use Rattle.control.specs.Meaning.{callTree, callShown, Kc, secretAt}
 use Rattle.effects.specs.Answer.{isWait}
 use Rattle.session_bytes.specs.Session.{sessionIn, withState}
 use Rattle.places.specs.Places.{Holds}
-use Rattle.turn.specs.Onward.{go}
+use Rattle.going.specs.Onward.{go}
 use Rattle.asking.specs.declared.Back.{Back}
 use Rattle.asking.specs.Asking.{Asks, askedOf}
 use Rattle.asking.proofs.Laws as asking

@@ -18,7 +18,7 @@ use Rattle.control.specs.Meaning.{Args, callTree}
 use Rattle.effects.specs.Args.{argsOf}
 use Rattle.jobs.specs.Jobs.{frameJob}
 use Rattle.session_bytes.specs.Session.{sessionIn}
-use Rattle.turn.specs.Onward.{go}
+use Rattle.going.specs.Onward.{go}
 use Rattle.turning.specs.Turning.{worldIn, Ends}
 use Rattle.sending.specs.declared.SendAt.{SendAt}
 use Rattle.sending.specs.declared.SendNow.{SendNow}

@@ -38,7 +38,7 @@ ghost use Rattle.send.specs.Send.{sendOp};
 ghost use Rattle.control.specs.declared.CallPoint as point;
 ghost use Rattle.control.specs.Meaning.{callShown, callTree, Kc};
 ghost use Rattle.session_bytes.specs.Session.{isSession};
-ghost use Rattle.turn.specs.Onward.{go};
+ghost use Rattle.going.specs.Onward.{go};
 ghost use Rattle.undo.specs.Undo.{Kept};
 ghost use Rattle.asking.specs.Asking.{Asks, Grew};
 ghost use Rattle.sending.specs.Sending.{Covered, pointOf};

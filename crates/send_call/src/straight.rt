@@ -28,7 +28,7 @@ ghost use Rattle.control.specs.Meaning.{callShown};
 ghost use Rattle.send.specs.Send.{spending};
 ghost use Rattle.session_bytes.specs.Session.{isSession, sessionIn, withState};
 ghost use Rattle.places.specs.Places.{Holds};
-ghost use Rattle.turn.specs.Onward.{go};
+ghost use Rattle.going.specs.Onward.{go};
 ghost use Rattle.run_end.specs.RunEnd as ending;
 ghost use Rattle.turning.specs.Turning as turning;
 ghost use Rattle.send_call.specs.SendCall as to;

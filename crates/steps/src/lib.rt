@@ -1,4 +1,3 @@
-// The small steps of a call, its stages' requests, and the operation at a point.
-pub mod point;
+// A call's stages: their requests, and which errors end one.
 pub mod stages;
 pub mod steps;

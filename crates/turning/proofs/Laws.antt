@@ -21,8 +21,8 @@ use Rattle.definition.specs.Prog.{World, world, Prog, stop, ret}
 use Rattle.definition.specs.Poll.{Result}
 use Rattle.definition.specs.Run.{End, finished, rolledBack}
 use Rattle.device.specs.Meaning.{opIn, asking, told, landing, InRange}
-use Rattle.turn.specs.Onward.{finish, go}
-use Rattle.turn.proofs.Going.{go-ret, go-stop}
+use Rattle.going.specs.Onward.{finish, go}
+use Rattle.going.proofs.Going.{go-ret, go-stop}
 use Rattle.asking.specs.declared.Back.{Back}
 use Rattle.asking.specs.declared.Asked.{Asked}
 use Rattle.asking.specs.Asking.{Asks, KeptOn, Landed, Left, Grew, SmallPlace, answerOf, answerTo, asked, followed}

@@ -9,7 +9,7 @@ use Rattle.definition.specs.Prog.{World}
 use Rattle.definition.specs.Run.{End}
 use Rattle.control.specs.Meaning.{Args, callTree}
 use Rattle.effects.specs.Args.{argsOf}
-use Rattle.turn.specs.Onward.{go}
+use Rattle.going.specs.Onward.{go}
 use Rattle.exchanging.specs.declared.now.CallNow.{CallNow}
 use Rattle.exchanging.specs.Exchanging.{nextOf}
 use Rattle.turning.specs.Turning as turning

@@ -9,7 +9,7 @@ use Rattle.control.specs.Begin.{exchangesStep}
 use Rattle.control.specs.Meaning.{lensOf, laidBefore}
 use Rattle.effects.specs.Args.{argsOf}
 use Rattle.session_bytes.specs.Session.{sessionIn}
-use Rattle.turn.specs.Onward.{go}
+use Rattle.going.specs.Onward.{go}
 use Rattle.exchange_call.proofs.Laws.{begun-tree}
 use borrow.Author.Needs.{needs}
 use Rattle.exchange_call.proofs.exchange_run.Statement.{statement}

@@ -12,7 +12,7 @@ use Rattle.control.specs.declared.CallNext.{CallNext}
 use Rattle.control.specs.declared.CallPoint.{CallPoint}
 use Rattle.control.specs.Meaning.{callTree}
 use Rattle.session_bytes.specs.Session.{sessionIn}
-use Rattle.turn.specs.Onward.{go}
+use Rattle.going.specs.Onward.{go}
 use Rattle.turning.specs.Turning as turning
 use Rattle.poll_call.specs.PollCall as to
 use Rattle.poll_call.proofs.Laws.{Running, left, left-less, on-turns}

@@ -1,7 +1,7 @@
 use mathlib.Core.Path.{refl, ap, _∙_}
 use native.Mathlib.Omega.{arith}
 use lib.ListN.{drop}
-use Rattle.turn.specs.Onward.{go}
+use Rattle.going.specs.Onward.{go}
 use Rattle.send_call.proofs.Laws.{turns-by}
 use borrow.Author.Needs.{needs}
 use Rattle.send_call.proofs.send_run.Statement.{statement}

@@ -1,4 +1,4 @@
-use Rattle.turn.specs.Onward.{endOf, withList}
+use Rattle.going.specs.Onward.{endOf, withList}
 use Rattle.session_bytes.specs.Session.{sessionIn}
 use Rattle.entry.proofs.Laws.{handed-is}
 use borrow.Author.Needs.{needs}

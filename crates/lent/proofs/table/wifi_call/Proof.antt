@@ -51,10 +51,10 @@ use Rattle.wlan.specs.declared.State.{State}
 use Rattle.wlan.proofs.State as S
 use Rattle.wlan.proofs.State.Laws as S′
 use Rattle.definition.specs.Prog.{world}
-use Rattle.turn.specs.declared.CallEnd.{CallEnd}
-use Rattle.turn.specs.Onward.{endOf}
-use Rattle.turn.proofs.CallEnd as E
-use Rattle.turn.proofs.CallEnd.Laws as E′
+use Rattle.going.specs.declared.CallEnd.{CallEnd}
+use Rattle.going.specs.Onward.{endOf}
+use Rattle.going.proofs.CallEnd as E
+use Rattle.going.proofs.CallEnd.Laws as E′
 use Rattle.scan_table.proofs.Laws.{size-of}
 use Rattle.scan_table.proofs.Records.{word}
 use Rattle.scan_table.proofs.Shared.{LentShared, lends-shared, shared-back}

@@ -10,7 +10,7 @@ use Rattle.runs.proofs.exchanges.join_run.Statement.{statement}
 use Rattle.runs.proofs.exchanges.join_run.Tie as tie
 use Rattle.runs.proofs.exchanges.join_run.Reads as reads
 use Rattle.runs.proofs.exchanges.join_run.Lts as lts
-use Rattle.jobs.proofs.bytes.at_most.Reads as at-most-reads
+use Rattle.jobs.proofs.jobs.at_most.Reads as at-most-reads
 use Rattle.runs.proofs.exchanges.start_run.Reads as start-run-reads
 use Rattle.starting.proofs.bytes.join_start.Reads as join-start-reads
 
