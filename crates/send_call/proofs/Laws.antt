@@ -1,14 +1,16 @@
 -- A send's step on a session's bytes is the tree's.
 use Prim.Native.Nat.{ℕ, _+_, _-_, _%_, _<_, _≤_, min}
 use mathlib.Core.Path.{_≡_, refl, sym, ap, _∙_}
-use mathlib.Core.Bool.{Bool, true, false, true≢false}
+use mathlib.Core.Bool.{Bool, true, false}
 use mathlib.Core.List.{List, []}
 use native.Mathlib.Omega.{arith}
 use lib.Bits.{bitAnd}
 use lib.Dec.{eqb}
 use lib.ListN.{length, drop}
+use borrow.Author.Tests.{le-ltb}
 use Rattle.slices.specs.Pick.{pick}
 use Rattle.slices.specs.Over.{over}
+use Rattle.slices.specs.Le.{round4}
 use Rattle.wlan.specs.declared.AsyncEvent.{AsyncEvent}
 use Rattle.wlan.specs.declared.BusAnswer.{BusAnswer}
 use Rattle.wlan.specs.declared.BusOp.{BusOp}
@@ -18,7 +20,8 @@ use Rattle.wlan.specs.declared.State.{State}
 use Rattle.wlan.specs.declared.Success.{Success}
 use Rattle.definition.specs.Bus.{Bytes, Ans, Place, fault, val}
 use Rattle.definition.specs.Event.{eventOf}
-use Rattle.definition.specs.Packet.{dataPart}
+use Rattle.definition.specs.Packet.{header, dataPart}
+use Rattle.definition.specs.Send.{free}
 use Rattle.definition.specs.Prog.{World, world, Prog, stop}
 use Rattle.definition.specs.Poll.{Result}
 use Rattle.definition.specs.Run.{End}
@@ -41,7 +44,8 @@ use Rattle.control.specs.Steps.{callOp}
 use Rattle.control.specs.Meaning.{Args, callTree, callShown, Kc, laidAll, laidBefore, laidRequest, listAt, successOf}
 use Rattle.control.proofs.Bridge.{call-is}
 use Rattle.effects.specs.Answer.{isWait}
-use Rattle.session_bytes.specs.Session.{isSession, sessionIn}
+use Rattle.session_bytes.specs.Session.{isSession, sessionIn, withState}
+use Rattle.places.specs.Places.{Holds}
 use Rattle.going.specs.Onward.{go}
 use Rattle.going.proofs.Going.{go-unroll}
 use Rattle.undo.specs.Undo.{Kept, keptOf, backSession, backBuf}
@@ -51,10 +55,9 @@ use Rattle.asking.specs.declared.Asked.{Asked}
 use Rattle.asking.specs.declared.Back.{Back}
 use Rattle.asking.specs.Asking.{Asks}
 use Rattle.sending.specs.declared.SendAt.{SendAt}
-use Rattle.sending.specs.declared.SendKind.{SendKind}
 use Rattle.sending.specs.declared.SendNow.{SendNow}
 use Rattle.sending.specs.declared.SentKind.{SentKind}
-use Rattle.sending.specs.Sending.{headerIn, nextBy, pointBy, pointOf, Covered, Sends}
+use Rattle.sending.specs.Sending.{headerIn, nextBy, listed, Covered, Sends}
 use Rattle.sending.proofs.Laws.{faulted}
 use Rattle.run_end.specs.RunEnd as ending
 use Rattle.turning.specs.Turning as turning
@@ -123,11 +126,14 @@ module _ (frame : Bytes) where
   shown-by st heard put (SendNext.Refused h e) x w = refl
 
   -- b and d: the session's bytes before and after the step; c and f: the work buffer
+  shown-step : (b d : List ℕ) {c f : Bytes} {n : CallNext} (x : AsyncEvent) (s : SendStep) (put : RequestPut) (b₀ : Bytes) → c ≡ laidRequest a put b₀ → n ≡ nextIn (s .next) → f ≡ laidHeader (headerIn (s .next)) c → sessionIn d ≡ listed b x s
+      → callTree a n (turning.worldIn d f) ≡ callShown a (sendingStep s put) x (turning.worldIn b b₀)
+  unfolding sendingStep
+  shown-step b d x s put b₀ hc hn hf hd = rw (hn, hf, hc, hd) (shown-by (s .st) (s .heard) put (s .next) x (turning.worldIn b b₀))
+
   stepped : {u v b d : List ℕ} {c f : Bytes} {r : SendNow} {x : AsyncEvent} {s : SendStep} (put : RequestPut) (b₀ : Bytes) → c ≡ laidRequest a put b₀ → Sends u v b d c f r x s
       → callTree a (to.callNow r) (turning.worldIn d f) ≡ callShown a (sendingStep s put) x (turning.worldIn b b₀)
-  unfolding sendingStep
-  stepped {b = b} {r = r} {x = x} {s = s} put b₀ hc k =
-      rw (next-is (r .kind) r (headerIn (s .next)) (k .next), k .laid, hc, k .held .back) (shown-by (s .st) (s .heard) put (s .next) x (turning.worldIn b b₀))
+  stepped {b = b} {d = d} {r = r} {x = x} {s = s} put b₀ hc k = shown-step b d x s put b₀ hc (next-is (r .kind) r (headerIn (s .next)) (k .next)) (k .laid) (k .held .back)
 
   abbrev out : OutPacket
   out = frameOut (a .job)
@@ -136,6 +142,21 @@ module _ (frame : Bytes) where
       → callTree a (to.callNow r) (turning.worldIn d f) ≡ callShown a (to.startIn interface frame b) (eventOf [] 0) (turning.worldIn b b₀)
   unfolding laidRequest
   send-starts interface b₀ hc k = stepped (RequestPut.Data interface) b₀ hc k
+
+  -- the credit is there, and the packet is not too long
+  free-start : (st : State) → free st ≡ true → length frame ≤ 2022
+      → send.startStep st out ≡ send.step (send.spending st) false (SendNext.Ask (send.putOf st out) (SendPoint.Ready 999 (round4 (18 + length frame))))
+  unfolding send.startStep send.emitStep
+  free-start st h m = simp (h, le-ltb 2040 (round4 (18 + length frame)) (omega arith))
+
+  -- seq: the sequence number that is spent
+  pub free-starts : (b d : List ℕ) {f : Bytes} (interface seq : ℕ) (b₀ : Bytes) → free (sessionIn b .st) ≡ true → length frame ≤ 2022 → seq ≡ sessionIn b .st .sdpcm .«packet_tx_seq» → Holds d (withState b (send.spending (sessionIn b .st)))
+      → f ≡ over (over b₀ 12 (dataPart interface frame)) 0 (header (18 + length frame) seq 2)
+      → callTree a (to.asksOf (SendPoint.Ready 999 (round4 (18 + length frame)))) (turning.worldIn d f) ≡ callShown a (to.startIn interface frame b) (eventOf [] 0) (turning.worldIn b b₀)
+  unfolding laidRequest laidHeader headerIn nextIn listHeard
+  free-starts b d interface seq b₀ h m hs hd hf =
+      let st = sessionIn b .st in
+      rw (free-start st h m) (shown-step b d (eventOf [] 0) (send.step (send.spending st) false (SendNext.Ask (send.putOf st out) (SendPoint.Ready 999 (round4 (18 + length frame))))) (RequestPut.Data interface) b₀ refl refl (rw hs at hf) (hd .back))
 
   module _ (m : length frame ≤ 2030) (q : SendPoint) (y : Ans) (b₀ buf : Bytes) (i : InRange (send.sendOp q) y) (hb : buf ≡ landing (send.sendOp q) y b₀) (e : World) (ws log : List ℕ) (len : ℕ) where
     abbrev arrived : State → Arrival
@@ -202,31 +223,6 @@ pub valued-ends : (op : BusOp) {rec log log′ : List ℕ} {pos len : ℕ} {b c 
     → ((y : Ans) → BusAnswer.Value (x .value) ≡ told y → InRange op y → c ≡ landing op y b → turning.Ends e (go e (drop (x .pos) rec) log′ (x .len) (k y)) r l d f)
     → turning.Ends e (go e (drop pos rec) log len (asking (opIn op s b) k)) r l d f
 valued-ends op x h e s k {r} {l} {d} {f} n g t = law.asked-value op x h e s k d (λ (o : End). turning.Ends e o r l d f) n g t
-
--- ---- a send that need not wait
-
-pub ready-point : (p : SendAt) → p .kind ≡ SendKind.Ready → pointOf p ≡ SendPoint.Ready (p .left) (p .n)
-unfolding pointBy
-ready-point p h = rw h refl
-
-ready-asks : (p : SendAt) → p .kind ≡ SendKind.Ready → send.sendOp (pointOf p) ≡ BusOp.ReadStatus
-unfolding pointBy send.sendOp
-ready-asks p h = rw h refl
-
-pub asks-ready : {rec log log′ : List ℕ} {pos len : ℕ} {b c : Bytes} {x : Asked} (p : SendAt) → p .kind ≡ SendKind.Ready → Asks BusOp.ReadStatus rec log log′ pos len b c x → Asks (send.sendOp (pointOf p)) rec log log′ pos len b c x
-asks-ready p h k = rw (ready-asks p h) k
-
-pub ready-kind : (k : SendKind) → to.isReady k ≡ true → k ≡ SendKind.Ready
-ready-kind SendKind.First h = absurd (true≢false (sym h))
-ready-kind SendKind.Polling h = absurd (true≢false (sym h))
-ready-kind SendKind.Late h = absurd (true≢false (sym h))
-ready-kind SendKind.Waited h = absurd (true≢false (sym h))
-ready-kind SendKind.Ready h = refl
-ready-kind SendKind.Writing h = absurd (true≢false (sym h))
-
-pub now-asks : (n : SendNow) → n .kind ≡ SentKind.Ask → to.callNow n ≡ to.asksAt (n .at)
-unfolding to.callBy
-now-asks n h = rw h refl
 
 -- ---- the loop
 

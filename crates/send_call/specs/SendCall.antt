@@ -21,7 +21,6 @@ use Rattle.session_bytes.specs.Session.{sessionIn}
 use Rattle.going.specs.Onward.{go}
 use Rattle.turning.specs.Turning.{worldIn, Ends}
 use Rattle.sending.specs.declared.SendAt.{SendAt}
-use Rattle.sending.specs.declared.SendKind.{SendKind}
 use Rattle.sending.specs.declared.SendNow.{SendNow}
 use Rattle.sending.specs.declared.SentKind.{SentKind}
 use Rattle.sending.specs.Sending.{pointOf}
@@ -57,14 +56,6 @@ callBy SentKind.Refused n = CallNext.Refused (n .error)
 
 abbrev pub callNow : SendNow → CallNext
 callNow n = callBy (n .kind) n
-
-abbrev pub isReady : SendKind → Bool
-isReady SendKind.First = false
-isReady SendKind.Polling = false
-isReady SendKind.Late = false
-isReady SendKind.Waited = false
-isReady SendKind.Ready = true
-isReady SendKind.Writing = false
 
 -- the run goes on to x, or came to it
 abbrev pub TurnsBy : Bytes → World → End → List ℕ → SendTurned → List ℕ → List ℕ → Bytes → Bool → Type 0

@@ -1,10 +1,9 @@
 // `send_data` over its recording, on a session's bytes.
 pub mod asks;
+pub mod straight;
 
 use crate::asks::send_ask;
 use asking::Asked;
-use asking::ask_status;
-use asking::ask_write;
 use receive::polled::PollAt;
 use receive::polled::PollKind;
 use run_end::RunEnd;
@@ -12,7 +11,6 @@ use run_end::done_end;
 use run_end::error_end;
 use run_end::fault_end;
 use sdpcm::header::put_data;
-use sdpcm::status::f2_ready;
 use send::OutPacket;
 use sending::SendAt;
 use sending::SendKind;
@@ -36,7 +34,6 @@ ghost use Rattle.definition.specs.Packet.{dataPart};
 ghost use Rattle.definition.specs.Prog.{World};
 ghost use Rattle.device.specs.Meaning.{told, landing, InRange};
 ghost use Rattle.definition.specs.Run.{End};
-ghost use Rattle.send.specs.declared.SendPoint.{SendPoint};
 ghost use Rattle.send.specs.Send.{sendOp};
 ghost use Rattle.control.specs.declared.CallPoint as point;
 ghost use Rattle.control.specs.Meaning.{callShown, callTree, Kc};
@@ -45,7 +42,6 @@ ghost use Rattle.going.specs.Onward.{go};
 ghost use Rattle.undo.specs.Undo.{Kept};
 ghost use Rattle.asking.specs.Asking.{Asks, Grew};
 ghost use Rattle.sending.specs.Sending.{Covered, pointOf};
-ghost use Rattle.run_end.specs.RunEnd as ending;
 ghost use Rattle.turning.specs.Turning as turning;
 ghost use Rattle.send_call.specs.SendCall as to;
 
@@ -225,130 +221,6 @@ fn send_on(
     end
 }
 
-// ---- a send that need not wait
-
-// The packet is written.
-fn write_end(n: u16, pos: usize, len: usize, rec: &[u32], log: &mut [u32], buf: &[u8]) -> RunEnd
-    ensures { λ r. ⌜ ((frame : Bytes) → length frame ≤ 2030 → (e : World) (s : List ℕ) → turning.Ends e (go e (drop pos (now (rec .entry))) (now (log .entry)) len (callTree (to.argsIn frame) (to.asksOf (SendPoint.Writing n)) (turning.worldIn s (now (buf .entry))))) r (now (log .exit)) s (now (buf .entry))) ⌝ }
-{
-    let a = ask_write(n, pos, len, rec, log, buf);
-    if is_back(a) {
-        return back_end(a);
-    }
-    if a.fault {
-        return fault_end(a.value, a.len);
-    }
-    done_end(a.len)
-}
-
-// The device is not ready yet.
-fn status_again(
-    size: u16,
-    p: SendAt,
-    v: u64,
-    pos: usize,
-    len: usize,
-    s: &mut [u8],
-    undo: &mut [u8],
-    rec: &[u32],
-    log: &mut [u32],
-    buf: &mut [u8],
-) -> RunEnd
-    requires { ⌜ isSession (now s) ≡ true ⌝ }
-    requires { ⌜ Kept (now undo) ⌝ }
-    requires { ⌜ length (now buf) ≡ 2048 ⌝ }
-    requires { ⌜ len ≤ length (now log) ⌝ }
-    ensures on { λ r. ⌜ ((frame : Bytes) (y : Ans) (b : Bytes) → to.Sized frame size → BusAnswer.Value v ≡ told y → InRange (sendOp (pointOf p)) y → now (buf .entry) ≡ landing (sendOp (pointOf p)) y b → (e : World) → turning.Ends e (go e (drop pos (now (rec .entry))) (now (log .entry)) len (Kc (to.argsIn frame) (point.CallPoint.Send (pointOf p)) y (turning.worldIn (now (s .entry)) b))) r (now (log .exit)) (now (s .exit)) (now (buf .exit))) ⌝ }
-    ensures held { λ _. ⌜ isSession (now (s .exit)) ≡ true ⌝ }
-    ensures kept { λ _. ⌜ turning.KeptAll (now (undo .entry)) (now (undo .exit)) (now (s .entry)) (now (s .exit)) (now (buf .entry)) (now (buf .exit)) ⌝ }
-{
-    let t = send_valued(size, p, v, pos, len, s, undo, buf);
-    send_on(size, t, s, undo, rec, log, buf)
-}
-
-// The status that was read.
-fn status_valued(
-    size: u16,
-    p: SendAt,
-    v: u64,
-    pos: usize,
-    len: usize,
-    s: &mut [u8],
-    undo: &mut [u8],
-    rec: &[u32],
-    log: &mut [u32],
-    buf: &mut [u8],
-) -> RunEnd
-    requires { ⌜ isSession (now s) ≡ true ⌝ }
-    requires { ⌜ Kept (now undo) ⌝ }
-    requires { ⌜ length (now buf) ≡ 2048 ⌝ }
-    requires { ⌜ len ≤ length (now log) ⌝ }
-    requires { ⌜ p .kind ≡ SendKind.Ready ⌝ }
-    ensures on { λ r. ⌜ ((frame : Bytes) (y : Ans) (b : Bytes) → to.Sized frame size → BusAnswer.Value v ≡ told y → InRange (sendOp (pointOf p)) y → now (buf .entry) ≡ landing (sendOp (pointOf p)) y b → (e : World) → turning.Ends e (go e (drop pos (now (rec .entry))) (now (log .entry)) len (Kc (to.argsIn frame) (point.CallPoint.Send (pointOf p)) y (turning.worldIn (now (s .entry)) b))) r (now (log .exit)) (now (s .exit)) (now (buf .exit))) ⌝ }
-    ensures held { λ _. ⌜ isSession (now (s .exit)) ≡ true ⌝ }
-    ensures kept { λ _. ⌜ turning.KeptAll (now (undo .entry)) (now (undo .exit)) (now (s .entry)) (now (s .exit)) (now (buf .entry)) (now (buf .exit)) ⌝ }
-{
-    if f2_ready((v % 4294967296) as u32) {
-        return write_end(p.n, pos, len, rec, log, buf);
-    }
-    status_again(size, p, v, pos, len, s, undo, rec, log, buf)
-}
-
-// The status is read once, and the packet written where the device is ready.
-fn status_end(
-    size: u16,
-    p: SendAt,
-    s: &mut [u8],
-    undo: &mut [u8],
-    rec: &[u32],
-    log: &mut [u32],
-    buf: &mut [u8],
-) -> RunEnd
-    requires { ⌜ isSession (now s) ≡ true ⌝ }
-    requires { ⌜ Kept (now undo) ⌝ }
-    requires { ⌜ length (now buf) ≡ 2048 ⌝ }
-    requires { ⌜ p .kind ≡ SendKind.Ready ⌝ }
-    ensures on { λ r. ⌜ ((frame : Bytes) → to.Sized frame size → (e : World) → turning.Ends e (go e (drop 0 (now (rec .entry))) (now (log .entry)) 0 (callTree (to.argsIn frame) (to.asksAt p) (turning.worldIn (now (s .entry)) (now (buf .entry))))) r (now (log .exit)) (now (s .exit)) (now (buf .exit))) ⌝ }
-    ensures held { λ _. ⌜ isSession (now (s .exit)) ≡ true ⌝ }
-    ensures kept { λ _. ⌜ turning.KeptAll (now (undo .entry)) (now (undo .exit)) (now (s .entry)) (now (s .exit)) (now (buf .entry)) (now (buf .exit)) ⌝ }
-{
-    let a = ask_status(0, 0, rec, log);
-    if is_back(a) {
-        return back_end(a);
-    }
-    if a.fault {
-        return fault_end(a.value, a.len);
-    }
-    status_valued(size, p, a.value, a.pos, a.len, s, undo, rec, log, buf)
-}
-
-fn is_ready(k: SendKind) -> bool
-    ensures { λ r. ⌜ r ≡ to.isReady k ⌝ }
-{
-    match k {
-        SendKind::First => false,
-        SendKind::Polling => false,
-        SendKind::Late => false,
-        SendKind::Waited => false,
-        SendKind::Ready => true,
-        SendKind::Writing => false,
-    }
-}
-
-// Its next operation is the status.
-fn need_not_wait(n: SendNow) -> bool
-    ensures { λ r. ⌜ (r ≡ true → (n .kind ≡ SentKind.Ask) × (n .at .kind ≡ SendKind.Ready)) ⌝ }
-{
-    let k = n.kind;
-    let p = n.at;
-    let q = p.kind;
-    match k {
-        SentKind::Ask => is_ready(q),
-        SentKind::Sent => false,
-        SentKind::Refused => false,
-    }
-}
-
 // ---- the call
 
 // The frame is laid, and the send begins.
@@ -385,9 +257,5 @@ pub fn send_run(
 {
     let size = 18 + frame.len() as u16;
     let n = send_first(interface, frame, s, undo, buf);
-    if need_not_wait(n) {
-        let p = n.at;
-        return status_end(size, p, s, undo, rec, log, buf);
-    }
     send_on(size, send_now(n, 0, 0), s, undo, rec, log, buf)
 }

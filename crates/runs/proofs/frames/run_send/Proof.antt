@@ -1,59 +1,74 @@
--- <<
-use mathlib.Core.Path.{_∙_}
 use native.Mathlib.Omega.{arith}
-use Rattle.session_bytes.proofs.Laws.{session-length}
-use Rattle.runs.proofs.Laws.{left}
--- >>
+use borrow.Author.Tests.{leb-true}
+use Rattle.turning.specs.Turning.{worldIn}
+use Rattle.runs.proofs.Laws.{send-called, left}
 use borrow.Author.Needs.{needs}
 use Rattle.runs.proofs.frames.run_send.Statement.{statement}
 use Rattle.runs.proofs.frames.run_send.Tie as tie
 use Rattle.runs.proofs.frames.run_send.Reads as reads
 use Rattle.runs.proofs.frames.run_send.Lts as lts
-use Rattle.runs.proofs.frames.send_any.Reads as send-any-reads
-use Rattle.runs.proofs.settle.Reads as settle-reads
-use Rattle.undo.proofs.keep_front.Reads as keep-front-reads
+use Rattle.run_end.proofs.done_end.Reads as done-end-reads
+use Rattle.runs.proofs.frames.is_straight.Reads as is-straight-reads
+use Rattle.runs.proofs.frames.send_kept.Reads as send-kept-reads
+use Rattle.send_call.proofs.straight.send_straight.Reads as send-straight-reads
 
--- src/frames.rt:55:5
-keep-front-requires : tie.Need-keep-front-requires
-keep-front-requires c κs = (c .before .before .before .before .before .before .before .before .pre .1 .0, session-length (c .before .before .before .before .before .before .before .before .args .s .now) (c .before .before .before .before .before .before .before .before .pre .0))
+is-straight-requires : tie.Need-is-straight-requires
+is-straight-requires c κs = search needs
 
--- src/frames.rt:56:9
-send-any-requires : tie.Need-send-any-requires
-send-any-requires c κs = search needs
+cast-send-straight : tie.Need-cast-send-straight
+cast-send-straight c = omega (arith, leb-true (c .before .before .before .before .before .before .before .before .before .before .args .interface) 2 (c .before .is-straight .ensures (c .if1 .taken) .0))
 
--- src/frames.rt:57:5
-settle-requires : tie.Need-settle-requires
-settle-requires c κs = (c .before .before .before .before .before .before .before .before .before .before .before .send-any .ensures .kept .kept, (c .before .before .before .before .before .before .before .before .before .before .before .send-any .ensures .held, omega (arith, c .before .before .before .before .before .before .before .before .before .before .before .before .before .before .before .before .before .before .before .before .before .before .before .before .before .before .before .pre .1 .1)))
+send-straight-requires : tie.Need-send-straight-requires
+send-straight-requires c κs = let k = c .before .before .before .before .is-straight .ensures (c .before .before .before .if1 .taken) .1 in (c .before .before .before .before .before .before .before .before .before .before .before .before .before .pre .0, (k .most, k .fits))
 
--- src/frames.rt:41:1
+done-end-requires : tie.Need-done-end-requires
+done-end-requires c κs = search needs
+
 same-length : tie.Need-same-length
 same-length c = search needs
 
--- src/frames.rt:41:1
 same-length-2 : tie.Need-same-length-2
 same-length-2 c = search needs
 
--- src/frames.rt:41:1
 same-length-3 : tie.Need-same-length-3
 same-length-3 c = search needs
 
--- src/frames.rt:41:1
+returns : tie.Need-returns
+returns c = let k = c .before .before .before .before .before .before .before .before .before .before .before .before .is-straight .ensures (c .before .before .before .before .before .before .before .before .before .before .before .if1 .taken) in let h = rw (send-called (c .before .before .before .before .before .before .before .before .before .before .before .before .before .before .before .before .before .before .before .before .before .args .interface) (c .before .before .before .before .before .before .before .before .before .before .before .before .before .before .before .before .before .before .before .before .before .args .frame .now) (c .before .before .before .before .before .before .before .before .before .before .before .before .before .before .before .before .before .before .before .before .before .args .s .now) (c .before .before .before .before .before .before .before .before .before .before .before .before .before .before .before .before .before .before .before .before .before .args .rec .now) (c .before .before .before .before .before .before .before .before .before .before .before .before .before .before .before .before .before .before .before .before .before .args .log .now) (c .before .before .before .before .before .before .before .before .before .before .before .before .before .before .before .before .before .before .before .before .before .args .buf .now) (k .0) (omega (arith, k .1 .most)) (c .before .before .before .before .before .before .before .before .before .before .before .before .before .before .before .before .before .before .before .before .before .pre .1 .1)) at (c .before .before .before .before .before .before .before .send-straight .ensures .0 (c .before .before .before .before .before .before .before .before .before .before .before .before .before .before .before .before .before .before .before .before .before .args .rec .now) (k .1) (worldIn (c .before .before .before .before .before .before .before .before .before .before .before .before .before .before .before .before .before .before .before .before .before .args .s .now) (c .before .before .before .before .before .before .before .before .before .before .before .before .before .before .before .before .before .before .before .before .before .args .buf .now))) in rw (c .done-end .ensures) (left h (c .before .before .before .before .before .before .before .send-straight .ensures .1, h .left))
+
+send-kept-requires : tie.Need-send-kept-requires
+send-kept-requires c κs = search needs
+
 same-length-4 : tie.Need-same-length-4
 same-length-4 c = search needs
 
--- src/frames.rt:41:1
-returns : tie.Need-returns
-returns c = left (c .before .before .before .before .before .before .before .before .before .before .before .before .before .before .before .before .send-any .ensures .ends) (c .before .before .before .before .settle .ensures (c .before .before .before .before .before .before .before .before .before .before .before .before .before .before .before .before .before .before .before .before .before .before .before .before .before .before .before .before .before .before .before .before .args .s .now) _ (c .before .before .before .before .before .before .before .before .before .before .before .before .before .before .before .before .before .before .before .before .before .before .before .before .before .before .before .before .before .before .before .before .args .buf .now) _ (c .before .before .before .before .before .before .before .before .before .before .before .before .before .before .before .before .before .before .before .before .before .before .before .before .before .before .before .before .before .before .before .before .pre .0) (λ t. c .before .before .before .before .before .before .before .before .before .before .before .before .before .before .before .before .send-any .ensures .kept .session ∙ c .before .before .before .before .before .before .before .before .before .before .before .before .before .before .before .before .before .before .before .before .before .before .before .keep-front .ensures .3) (λ t. c .before .before .before .before .before .before .before .before .before .before .before .before .before .before .before .before .send-any .ensures .kept .buf ∙ c .before .before .before .before .before .before .before .before .before .before .before .before .before .before .before .before .before .before .before .before .before .before .before .keep-front .ensures .4 (c .before .before .before .before .before .before .before .before .before .before .before .before .before .before .before .before .before .before .before .before .before .before .before .before .before .before .before .before .before .before .before .before .args .buf .now)) (c .before .before .before .before .before .before .before .before .before .before .before .before .before .before .before .before .send-any .ensures .ends))
+same-length-5 : tie.Need-same-length-5
+same-length-5 c = search needs
+
+same-length-6 : tie.Need-same-length-6
+same-length-6 c = search needs
+
+same-length-7 : tie.Need-same-length-7
+same-length-7 c = search needs
+
+returns-2 : tie.Need-returns-2
+returns-2 c = search needs
 
 pub run-send-spec : {M : Type 1} → statement M
 run-send-spec =
     tie.close
     (tie.spec
-    keep-front-requires
-    send-any-requires
-    settle-requires
+    is-straight-requires
+    cast-send-straight
+    send-straight-requires
+    done-end-requires
     same-length
     same-length-2
     same-length-3
+    returns
+    send-kept-requires
     same-length-4
-    returns)
+    same-length-5
+    same-length-6
+    same-length-7
+    returns-2)
