@@ -43,7 +43,8 @@ use Rattle.places.specs.Places.{Holds}
 use Rattle.effects.specs.Args.{argsOf}
 use Rattle.turn.specs.Onward.{go}
 use Rattle.poll_call.specs.PollCall.{noArgs}
-use Rattle.turning.specs.declared.RunEnd.{RunEnd}
+use Rattle.run_end.specs.declared.RunEnd.{RunEnd}
+use Rattle.run_end.specs.RunEnd as ending
 use Rattle.turning.specs.Turning as turning
 use Rattle.entry.specs.Entry.{Handed, shown, handed, sessionAt}
 use Rattle.entry.proofs.Laws.{handed-is}
@@ -115,7 +116,7 @@ send-called i frame s rec log b hi hl h =
 
 -- ---- arguments that are refused
 
-pub refused-runs : (c : Call) (s rec log u : List ℕ) (b : Bytes) (r : RunEnd) → isSession s ≡ true → Kept u → length b ≡ 2048 → ((w : World) → call c w ≡ stop DriverError.InvalidArg w) → r ≡ turning.endBy 1 0 0 → to.Runs c rec log log u u s s b b r
+pub refused-runs : (c : Call) (s rec log u : List ℕ) (b : Bytes) (r : RunEnd) → isSession s ≡ true → Kept u → length b ≡ 2048 → ((w : World) → call c w ≡ stop DriverError.InvalidArg w) → r ≡ ending.endBy 1 0 0 → to.Runs c rec log log u u s s b b r
 unfolding callTree laidBefore laidRequest laidHeader laidAll listHeard listAt
 refused-runs c s rec log u b r k kept h d er =
     let w = turning.worldIn s b in
@@ -153,10 +154,10 @@ pub same-holds : (b : List ℕ) → isSession b ≡ true → Holds b (withState 
 same-holds b h = record { known = h; back = refl }
 
 module _ (a : Args) (e : World) (s : State) (ws log b : List ℕ) (buf : Bytes) where
-  pub done-ends : (r : RunEnd) → s ≡ sessionIn b .st → r ≡ turning.endBy 0 0 0 → turning.Ends e (go e ws log 0 (callShown a (ends s false Before.None Ending.Done) (eventOf [] 0) (turning.worldIn b buf))) r log b buf
+  pub done-ends : (r : RunEnd) → s ≡ sessionIn b .st → r ≡ ending.endBy 0 0 0 → turning.Ends e (go e ws log 0 (callShown a (ends s false Before.None Ending.Done) (eventOf [] 0) (turning.worldIn b buf))) r log b buf
   unfolding callTree laidBefore laidRequest laidHeader laidAll listHeard listAt successOf
   done-ends r hs er = rw (hs, er) (returned e _ ws log b buf 0 refl)
 
-  pub refused-ends : (r : RunEnd) (x : DriverError) → s ≡ sessionIn b .st → r ≡ turning.endBy (errorNumber x) (errorValue x) 0 → turning.Ends e (go e ws log 0 (callShown a (refuses s false Before.None x) (eventOf [] 0) (turning.worldIn b buf))) r log b buf
+  pub refused-ends : (r : RunEnd) (x : DriverError) → s ≡ sessionIn b .st → r ≡ ending.endBy (errorNumber x) (errorValue x) 0 → turning.Ends e (go e ws log 0 (callShown a (refuses s false Before.None x) (eventOf [] 0) (turning.worldIn b buf))) r log b buf
   unfolding callTree laidBefore laidRequest laidHeader laidAll listHeard listAt
   refused-ends r x hs er = rw (hs, er) (stopped e x ws log b buf 0)

@@ -12,7 +12,7 @@ use Rattle.definition.specs.Prog.{World, world}
 use Rattle.definition.specs.Calls.{Call}
 use Rattle.definition.specs.Run.{End, called}
 use Rattle.session_bytes.specs.Session.{sessionIn, isSession}
-use Rattle.turning.specs.declared.RunEnd.{RunEnd}
+use Rattle.run_end.specs.declared.RunEnd.{RunEnd}
 use Rattle.turning.specs.Turning.{worldIn, Ends, KeptAll}
 use Rattle.entry.specs.Entry.{Handed, shown, handed}
 

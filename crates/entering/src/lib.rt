@@ -4,7 +4,7 @@ pub mod poll_entry;
 pub mod send_entry;
 
 use entry::hand::put_result;
-use turning::RunEnd;
+use run_end::RunEnd;
 use undo::put_back;
 ghost use mathlib.Core.Path.{_≡_};
 ghost use mathlib.Core.Bool.{true};

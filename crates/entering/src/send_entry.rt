@@ -2,10 +2,10 @@
 use crate::finish;
 use crate::other_length;
 use requests::numbers::is_interface;
+use run_end::RunEnd;
+use run_end::error_end;
 use send_call::send_run;
 use session_bytes::session::is_session;
-use turning::RunEnd;
-use turning::error_end;
 use undo::keep_front;
 use wlan::DriverError;
 ghost use mathlib.Core.Path.{_≡_};

@@ -10,7 +10,9 @@ use Rattle.wlan.specs.declared.AsyncEvent.{AsyncEvent}
 use Rattle.wlan.specs.declared.BusAnswer.{BusAnswer}
 use Rattle.wlan.specs.declared.BusOp.{BusOp}
 use Rattle.wlan.specs.declared.DriverError.{DriverError}
-use Rattle.wlan.specs.Outcome.{successValue, errorNumber, errorValue}
+use Rattle.wlan.specs.declared.Outcome.{Outcome}
+use Rattle.wlan.specs.declared.Refusal.{Refusal}
+use Rattle.wlan.specs.Outcome.{errorValue}
 use Rattle.definition.specs.Bus.{Bytes, Ans, fault, val}
 use Rattle.definition.specs.Prog.{World, world}
 use Rattle.definition.specs.Run.{End}
@@ -34,7 +36,8 @@ use Rattle.exchanging.specs.declared.now.CallNow.{CallNow}
 use Rattle.exchanging.specs.declared.now.CallKind.{CallKind}
 use Rattle.replying.specs.Replying.{pointOf}
 use Rattle.exchanging.specs.Exchanging as at
-use Rattle.turning.specs.declared.RunEnd.{RunEnd}
+use Rattle.run_end.specs.declared.RunEnd.{RunEnd}
+use Rattle.run_end.specs.RunEnd as ending
 use Rattle.turning.specs.Turning as turning
 use Rattle.turning.proofs.Laws as law
 use Rattle.exchange_call.specs.declared.CallTurned.{CallTurned}
@@ -68,13 +71,13 @@ no-wait (BusOp.Wait ns) (val v T) p i h = absurd (let z : _≡_ {A = ℕ} 0 1 = 
 -- ---- a call's end
 
 module _ (a : Args) (e : World) (ws log b : List ℕ) (buf : Bytes) (len : ℕ) where
-  pub gives-ends : (x : Ending) → turning.Ends e (go e ws log len (callTree a (CallNext.Ended x) (turning.worldIn b buf))) (turning.endBy 0 (successValue (successOf x buf)) len) log b buf
+  pub gives-ends : (x : Ending) → ending.SuccessFits (successOf x buf) → turning.Ends e (go e ws log len (callTree a (CallNext.Ended x) (turning.worldIn b buf))) (ending.endBy (Outcome.Ok (successOf x buf)) len) log b buf
   unfolding callTree
-  gives-ends x = law.returned e _ ws log b buf len refl
+  gives-ends x f = law.returned e _ ws log b buf len refl f
 
-  pub stops : (x : DriverError) → turning.Ends e (go e ws log len (callTree a (CallNext.Refused x) (turning.worldIn b buf))) (turning.endBy (errorNumber x) (errorValue x) len) log b buf
+  pub stops : (x : DriverError) → errorValue x < 256 → turning.Ends e (go e ws log len (callTree a (CallNext.Refused x) (turning.worldIn b buf))) (ending.endBy (Outcome.Refused (Refusal.Driver x)) len) log b buf
   unfolding callTree
-  stops x = law.stopped e x ws log b buf len
+  stops x f = law.stopped e x ws log b buf len f
 
 -- ---- a turn
 

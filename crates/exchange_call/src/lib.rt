@@ -14,18 +14,18 @@ use exchanging::answer::call_fault;
 use exchanging::begin::begin;
 use exchanging::now::CallKind;
 use exchanging::now::CallNow;
-use turning::RunEnd;
+use run_end::RunEnd;
+use run_end::done_end;
+use run_end::error_end;
+use run_end::success_end;
 use turning::back_end;
-use turning::error_end;
 use turning::is_back;
-use turning::value_end;
-use wlan::numbers::success_value;
 ghost use mathlib.Core.Path.{_≡_};
 ghost use mathlib.Core.Bool.{true, false};
 ghost use mathlib.Core.List.{List, []};
 ghost use Prim.Native.Nat.{ℕ, _+_, _<_, _≤_};
 ghost use lib.ListN.{length, drop};
-ghost use Rattle.wlan.specs.Outcome.{successValue};
+ghost use Rattle.wlan.specs.declared.Outcome.{Outcome};
 ghost use Rattle.definition.specs.Bus.{Bytes};
 ghost use Rattle.definition.specs.Event.{eventOf};
 ghost use Rattle.definition.specs.Prog.{World};
@@ -40,6 +40,7 @@ ghost use Rattle.undo.specs.Undo.{Kept};
 ghost use Rattle.asking.specs.Asking.{Asks, Grew};
 ghost use Rattle.control.specs.Steps.{callOp};
 ghost use Rattle.exchanging.specs.Exchanging as at;
+ghost use Rattle.run_end.specs.RunEnd as ending;
 ghost use Rattle.turning.specs.Turning as turning;
 ghost use Rattle.exchange_call.specs.ExchangeCall as to;
 
@@ -63,10 +64,10 @@ fn turned(on: bool, n: CallNow, pos: usize, end: RunEnd) -> CallTurned
 }
 
 // What a call gives at its end.
-fn ending_value(e: Ending, buf: &[u8]) -> u64
-    ensures { λ r. ⌜ r ≡ successValue (successOf e (now (buf .entry))) ⌝ }
+fn ending_end(e: Ending, buf: &[u8], len: usize) -> RunEnd
+    ensures { λ r. ⌜ (r ≡ ending.endBy (Outcome.Ok (successOf e (now (buf .entry)))) len) × ending.SuccessFits (successOf e (now (buf .entry))) ⌝ }
 {
-    success_value(success_of(e, buf))
+    success_end(success_of(e, buf), len)
 }
 
 // From where a call stands.
@@ -79,11 +80,11 @@ fn stands(n: CallNow, pos: usize, len: usize, buf: &[u8]) -> CallTurned
     let e = n.ending;
     let x = n.error;
     match k {
-        CallKind::Exchange => turned(true, n, pos, value_end(0, len)),
-        CallKind::Pause => turned(true, n, pos, value_end(0, len)),
-        CallKind::Clock => turned(true, n, pos, value_end(0, len)),
-        CallKind::Tick => turned(true, n, pos, value_end(0, len)),
-        CallKind::Ended => turned(false, n, pos, value_end(ending_value(e, buf), len)),
+        CallKind::Exchange => turned(true, n, pos, done_end(len)),
+        CallKind::Pause => turned(true, n, pos, done_end(len)),
+        CallKind::Clock => turned(true, n, pos, done_end(len)),
+        CallKind::Tick => turned(true, n, pos, done_end(len)),
+        CallKind::Ended => turned(false, n, pos, ending_end(e, buf, len)),
         CallKind::Refused => turned(false, n, pos, error_end(x, len)),
     }
 }

@@ -41,21 +41,27 @@ use Rattle.undo.specs.Undo.{Kept, backSession}
 use Rattle.polls.specs.declared.PollNow.{PollNow}
 use Rattle.polls.specs.Polls.{Gives, NextIs, Quiet, Reports, Stepped, listed}
 use Rattle.polls.proofs.Laws.{front-kept}
+use Rattle.run_end.specs.RunEnd as ending
 use Rattle.turning.specs.Turning as turning
 use Rattle.turning.proofs.Laws as law
-use Rattle.turning.specs.declared.RunEnd.{RunEnd}
+use Rattle.run_end.specs.declared.EndKind.{EndKind}
+use Rattle.run_end.specs.declared.PollReport.{PollReport}
+use Rattle.run_end.specs.declared.RunEnd.{RunEnd}
 use Rattle.poll_call.specs.declared.PollTurned.{PollTurned}
 use Rattle.poll_call.specs.PollCall as to
 
 -- ---- its end
 
-pub gives-ends : (e : World) (n : CallNext) (v : ℕ) (ws log b : List ℕ) (buf : Bytes) (len : ℕ) → Gives n v → turning.Ends e (go e ws log len (callTree to.noArgs n (turning.worldIn b buf))) (turning.endBy 0 v len) log b buf
+abbrev pub reports : PollReport → ℕ → RunEnd
+reports v len = ending.numbers EndKind.Polled (v .value) (v .failure) len
+
+pub gives-ends : (e : World) (n : CallNext) (v : PollReport) (ws log b : List ℕ) (buf : Bytes) (len : ℕ) → Gives n v → turning.Ends e (go e ws log len (callTree to.noArgs n (turning.worldIn b buf))) (reports v len) log b buf
 unfolding Gives callTree successOf
 gives-ends e (CallNext.Ask p) v ws log b buf len h = absurd h
 gives-ends e (CallNext.Ended Ending.Done) v ws log b buf len h = absurd h
 gives-ends e (CallNext.Ended Ending.Mac) v ws log b buf len h = absurd h
 gives-ends e (CallNext.Ended Ending.Word) v ws log b buf len h = absurd h
-gives-ends e (CallNext.Ended (Ending.Polled p)) v ws log b buf len h = rw (← h) (law.returned e _ ws log b buf len refl)
+gives-ends e (CallNext.Ended (Ending.Polled p)) v ws log b buf len h = rw (← h) (law.returned e _ ws log b buf len refl tt)
 gives-ends e (CallNext.Refused x) v ws log b buf len h = absurd h
 
 -- ---- the bridge, of a step that lays nothing
@@ -100,7 +106,7 @@ module _ (started : ℕ) (y : Ans) (buf : Bytes) (e : World) (ws log : List ℕ)
   abbrev at-tick : CallPoint
   at-tick = CallPoint.PollTick started
 
-  tick-steps : (b : List ℕ) {d : List ℕ} (t v : ℕ) → BusAnswer.Value t ≡ told y → Reports b d v (pollTick (sessionIn b .st) started (BusAnswer.Value t))
+  tick-steps : (b : List ℕ) {d : List ℕ} (t : ℕ) (v : PollReport) → BusAnswer.Value t ≡ told y → Reports b d v (pollTick (sessionIn b .st) started (BusAnswer.Value t))
       → go e ws log len (callTree to.noArgs (pollTick (sessionIn b .st) started (BusAnswer.Value t) .next) (turning.worldIn d buf)) ≡ go e ws log len (Kc to.noArgs at-tick y (turning.worldIn b buf))
   unfolding callOp callAnswer InRange landing listAt listHeard
   tick-steps b t v ht k =
@@ -108,8 +114,8 @@ module _ (started : ℕ) (y : Ans) (buf : Bytes) (e : World) (ws log : List ℕ)
       rw (k .heard, k .clear) at (step-tree at-tick y (sessionIn b .st) buf buf (sessionIn b .list) (pollTick (sessionIn b .st) started (BusAnswer.Value t)) tt refl (rw ht refl) (k .lay) e ws log len)
       )
 
-  pub tick-ends : (b : List ℕ) {d : List ℕ} (t v : ℕ) → BusAnswer.Value t ≡ told y → Reports b d v (pollTick (sessionIn b .st) started (BusAnswer.Value t))
-      → turning.Ends e (go e ws log len (Kc to.noArgs at-tick y (turning.worldIn b buf))) (turning.endBy 0 v len) log d buf
+  pub tick-ends : (b : List ℕ) {d : List ℕ} (t : ℕ) (v : PollReport) → BusAnswer.Value t ≡ told y → Reports b d v (pollTick (sessionIn b .st) started (BusAnswer.Value t))
+      → turning.Ends e (go e ws log len (Kc to.noArgs at-tick y (turning.worldIn b buf))) (reports v len) log d buf
   tick-ends b {d} t v ht k = rw (← tick-steps b t v ht k) (gives-ends e _ v ws log d buf len (k .next))
 
   pub tick-faults : (b : List ℕ) (v : ℕ) → InRange BusOp.ReadTick y → BusAnswer.Fault v ≡ told y → go e ws log len (stop (DriverError.Fault v) (turning.worldIn b buf)) ≡ go e ws log len (Kc to.noArgs at-tick y (turning.worldIn b buf))

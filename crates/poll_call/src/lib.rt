@@ -8,13 +8,14 @@ use polls::poll_tick;
 use receive::polled::PollAt;
 use receive::polled::PollKind;
 use receive::polled::poll_from;
-use turning::RunEnd;
+use run_end::RunEnd;
+use run_end::done_end;
+use run_end::error_end;
+use run_end::fault_end;
+use run_end::polled_end;
 use turning::back_end;
 use turning::device_ask;
-use turning::error_end;
-use turning::fault_end;
 use turning::is_back;
-use turning::value_end;
 use wlan::DriverError;
 ghost use mathlib.Core.Path.{_≡_};
 ghost use mathlib.Core.Bool.{true, false};
@@ -66,7 +67,7 @@ fn onward(p: PollAt, pos: usize, len: usize) -> PollTurned
         on: true,
         at: p,
         pos: pos,
-        end: value_end(0, len),
+        end: done_end(len),
     }
 }
 
@@ -90,7 +91,7 @@ fn tick_over(
     if a.fault {
         return fault_end(a.value, a.len);
     }
-    value_end(poll_tick(s, started, a.value), a.len)
+    polled_end(poll_tick(s, started, a.value), a.len)
 }
 
 // From where a poll stands.
@@ -109,10 +110,11 @@ fn poll_now(
 {
     let k = n.kind;
     let p = n.at;
+    let report = n.report;
     match k {
         NowKind::Ask => onward(p, pos, len),
-        NowKind::Tick => over(tick_over(n.number, pos, len, s, rec, log)),
-        NowKind::Over => over(value_end(n.number, len)),
+        NowKind::Tick => over(tick_over(n.started, pos, len, s, rec, log)),
+        NowKind::Over => over(polled_end(report, len)),
         NowKind::HeaderBeyond => over(error_end(DriverError::EventHeader, len)),
     }
 }

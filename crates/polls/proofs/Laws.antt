@@ -7,7 +7,6 @@ use Rattle.wlan.specs.declared.AsyncEvent.{AsyncEvent}
 use Rattle.wlan.specs.declared.DriverError.{DriverError}
 use Rattle.wlan.specs.declared.WlanPollResult.{WlanPollResult}
 use Rattle.wlan.specs.declared.State.{State}
-use Rattle.wlan.specs.Outcome.{pollValue}
 use Rattle.handling.specs.Handle.{handledOf, listHeard}
 use Rattle.control.specs.declared.Before.{Before}
 use Rattle.control.specs.declared.CallNext.{CallNext}
@@ -27,6 +26,8 @@ use Rattle.receive.specs.declared.polled.PollAt.{PollAt}
 use Rattle.undo.specs.Undo.{Kept, backSession}
 use Rattle.undo.proofs.Laws.{front-changed}
 use Rattle.arriving.specs.Arriving.{KeptFor, handledSession}
+use Rattle.run_end.specs.declared.PollReport.{PollReport}
+use Rattle.run_end.specs.RunEnd.{reportOf}
 use Rattle.polls.specs.declared.NowKind.{NowKind}
 use Rattle.polls.specs.declared.PollNow.{PollNow}
 use Rattle.polls.specs.Polls.{Gives, NextBy, NextIs, Quiet, Quiets, Reports, Stepped}
@@ -37,11 +38,11 @@ pub asked : (r : PollNow) {p : PollAt} → r .kind ≡ NowKind.Ask → r .at ≡
 unfolding NextBy
 asked r k a = rw (k, a) refl
 
-pub ticked : (r : PollNow) {t : ℕ} → r .kind ≡ NowKind.Tick → r .number ≡ t → NextIs r (CallNext.Ask (CallPoint.PollTick t))
+pub ticked : (r : PollNow) {t : ℕ} → r .kind ≡ NowKind.Tick → r .started ≡ t → NextIs r (CallNext.Ask (CallPoint.PollTick t))
 unfolding NextBy
 ticked r k e = rw (k, e) refl
 
-pub ended : (r : PollNow) {v : ℕ} (n : CallNext) → r .kind ≡ NowKind.Over → r .number ≡ v → Gives n v → NextIs r n
+pub ended : (r : PollNow) {v : PollReport} (n : CallNext) → r .kind ≡ NowKind.Over → r .report ≡ v → Gives n v → NextIs r n
 unfolding NextBy
 ended r n k e g = rw (k, e) g
 
@@ -49,7 +50,7 @@ pub beyond : (r : PollNow) → r .kind ≡ NowKind.HeaderBeyond → NextIs r (Ca
 unfolding NextBy
 beyond r k = rw k refl
 
-pub polled-gives : (p : WlanPollResult) → Gives (CallNext.Ended (Ending.Polled p)) (pollValue p)
+pub polled-gives : (p : WlanPollResult) → Gives (CallNext.Ended (Ending.Polled p)) (reportOf p)
 unfolding Gives
 polled-gives p = refl
 
@@ -61,8 +62,8 @@ still k n e = rw e (record { next = n; held = record { known = k; back = refl };
 pub changed : {N : CallNext → Type 0} {b d : List ℕ} {t : State} {n : CallNext} {h : Bool} {s : CallStep} → Holds d (withState b t) → N n → s ≡ step t h (layBefore Before.None) n → Quiet N b d h s
 changed k n e = rw e (record { next = n; held = k; heard = refl; clear = refl; lay = refl })
 
--- the poll's value, as where it stands
-pub over-now : {b d : List ℕ} {v : ℕ} {s : CallStep} (r : PollNow) → r .kind ≡ NowKind.Over → r .number ≡ v → Reports b d v s → Quiets b d r s
+-- the poll's report, as where it stands
+pub over-now : {b d : List ℕ} {v : PollReport} {s : CallStep} (r : PollNow) → r .kind ≡ NowKind.Over → r .report ≡ v → Reports b d v s → Quiets b d r s
 over-now {b} {d} {v} {s} r k e q = record { next = ended r (s .next) k e (q .next); held = q .held; heard = q .heard; clear = q .clear; lay = q .lay }
 
 -- the state alone changed, so what is kept gives the same

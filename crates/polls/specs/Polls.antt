@@ -5,7 +5,6 @@ use mathlib.Core.Bool.{Bool, false}
 use mathlib.Core.List.{List}
 use Rattle.wlan.specs.declared.AsyncEvent.{AsyncEvent}
 use Rattle.wlan.specs.declared.DriverError.{DriverError}
-use Rattle.wlan.specs.Outcome.{pollValue}
 use Rattle.control.specs.declared.Before.{Before}
 use Rattle.control.specs.declared.CallNext.{CallNext}
 use Rattle.control.specs.declared.CallPoint.{CallPoint}
@@ -18,22 +17,24 @@ use Rattle.session_bytes.specs.Session.{sessionIn, withState}
 use Rattle.places.specs.Places.{Holds}
 use Rattle.receive.specs.Receive.{pointOf}
 use Rattle.arriving.specs.Arriving.{KeptFor}
+use Rattle.run_end.specs.declared.PollReport.{PollReport}
+use Rattle.run_end.specs.RunEnd.{reportOf}
 use Rattle.polls.specs.declared.NowKind.{NowKind}
 use Rattle.polls.specs.declared.PollNow.{PollNow}
 
--- the poll is over, and its value is v
-unfoldable pub Gives : CallNext → ℕ → Type 0
+-- the poll is over, and reports v
+unfoldable pub Gives : CallNext → PollReport → Type 0
 Gives (CallNext.Ask p) v = ⊥
 Gives (CallNext.Ended Ending.Done) v = ⊥
 Gives (CallNext.Ended Ending.Mac) v = ⊥
 Gives (CallNext.Ended Ending.Word) v = ⊥
-Gives (CallNext.Ended (Ending.Polled p)) v = pollValue p ≡ v
+Gives (CallNext.Ended (Ending.Polled p)) v = reportOf p ≡ v
 Gives (CallNext.Refused e) v = ⊥
 
 unfoldable pub NextBy : NowKind → PollNow → CallNext → Type 0
 NextBy NowKind.Ask r n = CallNext.Ask (CallPoint.Poll (pointOf (r .at))) ≡ n
-NextBy NowKind.Tick r n = CallNext.Ask (CallPoint.PollTick (r .number)) ≡ n
-NextBy NowKind.Over r n = Gives n (r .number)
+NextBy NowKind.Tick r n = CallNext.Ask (CallPoint.PollTick (r .started)) ≡ n
+NextBy NowKind.Over r n = Gives n (r .report)
 NextBy NowKind.HeaderBeyond r n = CallNext.Refused DriverError.EventHeader ≡ n
 
 abbrev pub NextIs : PollNow → CallNext → Type 0
@@ -50,7 +51,7 @@ pub record Quiet (N : CallNext → Type 0) (b d : List ℕ) (h : Bool) (s : Call
 abbrev pub Quiets : List ℕ → List ℕ → PollNow → CallStep → Type 0
 Quiets b d r s = Quiet (NextIs r) b d false s
 
-abbrev pub Reports : List ℕ → List ℕ → ℕ → CallStep → Type 0
+abbrev pub Reports : List ℕ → List ℕ → PollReport → CallStep → Type 0
 Reports b d v s = Quiet (λ n. Gives n v) b d false s
 
 -- e: the event that came

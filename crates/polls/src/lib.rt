@@ -15,6 +15,9 @@ use receive::polled::PolledKind;
 use receive::polled::poll_device;
 use receive::polled::poll_from;
 use receive::stored::store_reply;
+use run_end::PollReport;
+use run_end::failed_join;
+use run_end::unfailed;
 use send::elapsed_us;
 use wlan::ConnectFailure;
 use wlan::PendingBuf;
@@ -43,16 +46,16 @@ pub enum NowKind {
     HeaderBeyond,
 }
 
-// Where a poll stands: at an operation of the device's poll, at the tick (number: the disconnect began at this one), or at its end
-// (number: its value).
+// Where a poll stands: at an operation of the device's poll, at the tick (started: the disconnect began at this one), or at its end.
 pub struct PollNow {
     pub kind: NowKind,
     pub at: PollAt,
-    pub number: u64,
+    pub started: u64,
+    pub report: PollReport,
 }
 
-fn now_at(kind: NowKind, n: u64) -> PollNow
-    ensures { λ r. ⌜ (r .kind ≡ kind) × (r .number ≡ n) ⌝ }
+fn now_at(kind: NowKind, started: u64, report: PollReport) -> PollNow
+    ensures { λ r. ⌜ (r .kind ≡ kind) × (r .started ≡ started) × (r .report ≡ report) ⌝ }
 {
     PollNow {
         kind: kind,
@@ -60,8 +63,15 @@ fn now_at(kind: NowKind, n: u64) -> PollNow
             kind: PollKind::Interrupt,
             n: 0,
         },
-        number: n,
+        started: started,
+        report: report,
     }
+}
+
+fn over(report: PollReport) -> PollNow
+    ensures { λ r. ⌜ (r .kind ≡ now.NowKind.Over) × (r .report ≡ report) ⌝ }
+{
+    now_at(NowKind::Over, 0, report)
 }
 
 fn asks(p: PollAt) -> PollNow
@@ -70,7 +80,8 @@ fn asks(p: PollAt) -> PollNow
     PollNow {
         kind: NowKind::Ask,
         at: p,
-        number: 0,
+        started: 0,
+        report: unfailed(0),
     }
 }
 
@@ -83,31 +94,31 @@ pub fn polling(s: &[u8]) -> PollNow
 }
 
 // In Down a failure is reported once.
-fn report_down(s: &mut [u8]) -> u64
+fn report_down(s: &mut [u8]) -> PollReport
     requires { ⌜ isSession (now s) ≡ true ⌝ }
     ensures { λ r. ⌜ at.Reports (now (s .entry)) (now (s .exit)) r (to.downReport (sessionIn (now (s .entry)) .st) (sessionIn (now (s .entry)) .st .link .«connect_failure»)) ⌝ }
 {
     let f = failure_at(s);
     match f {
-        ConnectFailure::None => 0,
+        ConnectFailure::None => unfailed(0),
         ConnectFailure::Some(_) => {
             put_failure(s, ConnectFailure::None);
-            2
+            failed_join(f)
         }
     }
 }
 
 // The poll's value at its end.
-fn report(s: &mut [u8]) -> u64
+fn report(s: &mut [u8]) -> PollReport
     requires { ⌜ isSession (now s) ≡ true ⌝ }
     ensures { λ r. ⌜ at.Reports (now (s .entry)) (now (s .exit)) r (to.reportStep (sessionIn (now (s .entry)) .st)) ⌝ }
 {
     let state = wifi_at(s);
     match state {
         WifiState::Down => report_down(s),
-        WifiState::Connecting => 0,
-        WifiState::Connected => 0,
-        WifiState::Disconnecting => 0,
+        WifiState::Connecting => unfailed(0),
+        WifiState::Connected => unfailed(0),
+        WifiState::Disconnecting => unfailed(0),
     }
 }
 
@@ -117,8 +128,8 @@ fn disconnecting(s: &mut [u8]) -> PollNow
 {
     let t = tick_at(s);
     match t {
-        StartedTick::None => now_at(NowKind::Over, report(s)),
-        StartedTick::Some(n) => now_at(NowKind::Tick, n),
+        StartedTick::None => over(report(s)),
+        StartedTick::Some(n) => now_at(NowKind::Tick, n, unfailed(0)),
     }
 }
 
@@ -129,9 +140,9 @@ fn nothing(s: &mut [u8]) -> PollNow
 {
     let state = wifi_at(s);
     match state {
-        WifiState::Down => now_at(NowKind::Over, report(s)),
-        WifiState::Connecting => now_at(NowKind::Over, report(s)),
-        WifiState::Connected => now_at(NowKind::Over, report(s)),
+        WifiState::Down => over(report(s)),
+        WifiState::Connecting => over(report(s)),
+        WifiState::Connected => over(report(s)),
         WifiState::Disconnecting => disconnecting(s),
     }
 }
@@ -151,7 +162,7 @@ fn frame(s: &mut [u8], offset: u16, len: u16) -> PollNow
             len: len,
         }),
     );
-    now_at(NowKind::Over, 1)
+    over(unfailed(1))
 }
 
 // What the device's poll came to.
@@ -177,7 +188,7 @@ fn polled(s: &mut [u8], undo: &mut [u8], buf: &[u8], r: Polled) -> PollNow
             polling(s)
         }
         PolledKind::Data => frame(s, offset, len),
-        PolledKind::HeaderBeyond => now_at(NowKind::HeaderBeyond, 0),
+        PolledKind::HeaderBeyond => now_at(NowKind::HeaderBeyond, 0, unfailed(0)),
     }
 }
 
@@ -204,7 +215,7 @@ fn timed_out(s: &mut [u8], started: u64, tick: u64)
 }
 
 // The tick is t; the poll's value.
-pub fn poll_tick(s: &mut [u8], started: u64, t: u64) -> u64
+pub fn poll_tick(s: &mut [u8], started: u64, t: u64) -> PollReport
     requires { ⌜ isSession (now s) ≡ true ⌝ }
     ensures { λ r. ⌜ at.Reports (now (s .entry)) (now (s .exit)) r (to.pollTick (sessionIn (now (s .entry)) .st) started (BusAnswer.Value t)) ⌝ }
 {

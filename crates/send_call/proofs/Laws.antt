@@ -13,7 +13,9 @@ use Rattle.wlan.specs.declared.AsyncEvent.{AsyncEvent}
 use Rattle.wlan.specs.declared.BusAnswer.{BusAnswer}
 use Rattle.wlan.specs.declared.BusOp.{BusOp}
 use Rattle.wlan.specs.declared.DriverError.{DriverError}
+use Rattle.wlan.specs.declared.Outcome.{Outcome}
 use Rattle.wlan.specs.declared.State.{State}
+use Rattle.wlan.specs.declared.Success.{Success}
 use Rattle.definition.specs.Bus.{Bytes, Ans, Place, fault, val}
 use Rattle.definition.specs.Event.{eventOf}
 use Rattle.definition.specs.Packet.{dataPart}
@@ -54,9 +56,10 @@ use Rattle.sending.specs.declared.SendNow.{SendNow}
 use Rattle.sending.specs.declared.SentKind.{SentKind}
 use Rattle.sending.specs.Sending.{headerIn, nextBy, pointBy, pointOf, Covered, Sends}
 use Rattle.sending.proofs.Laws.{faulted}
+use Rattle.run_end.specs.RunEnd as ending
 use Rattle.turning.specs.Turning as turning
 use Rattle.turning.proofs.Laws as law
-use Rattle.turning.specs.declared.RunEnd.{RunEnd}
+use Rattle.run_end.specs.declared.RunEnd.{RunEnd}
 use Rattle.send_call.specs.declared.SendTurned.{SendTurned}
 use Rattle.send_call.specs.SendCall as to
 
@@ -76,9 +79,9 @@ frame-covered {u} {v} {c} {f} i frame z k m s e hc hf l =
 
 -- ---- the end
 
-pub sent-ends : (frame : Bytes) (e : World) (ws log b : List ℕ) (buf : Bytes) (len : ℕ) → turning.Ends e (go e ws log len (callTree (to.argsIn frame) (CallNext.Ended Ending.Done) (turning.worldIn b buf))) (turning.endBy 0 0 len) log b buf
+pub sent-ends : (frame : Bytes) (e : World) (ws log b : List ℕ) (buf : Bytes) (len : ℕ) → turning.Ends e (go e ws log len (callTree (to.argsIn frame) (CallNext.Ended Ending.Done) (turning.worldIn b buf))) (ending.endBy (Outcome.Ok Success.Done) len) log b buf
 unfolding callTree successOf
-sent-ends frame e ws log b buf len = law.returned e _ ws log b buf len refl
+sent-ends frame e ws log b buf len = law.returned e _ ws log b buf len refl tt
 
 -- ---- the bridge
 
@@ -166,7 +169,7 @@ module _ (frame : Bytes) where
         send-tree b (send.asks (sessionIn b .st) false (SendPoint.Writing n)) (rw (← hv, hq, h) refl)
 
     pub write-ends : (n : ℕ) → q ≡ SendPoint.Writing n → (b : List ℕ) (v : ℕ) → BusAnswer.Value v ≡ told y
-        → turning.Ends e (go e ws log len (Kc a (CallPoint.Send q) y (turning.worldIn b b₀))) (turning.endBy 0 0 len) log b buf
+        → turning.Ends e (go e ws log len (Kc a (CallPoint.Send q) y (turning.worldIn b b₀))) (ending.endBy (Outcome.Ok Success.Done) len) log b buf
     unfolding sendingStep sendingNext laidAll laidBefore laidRequest laidHeader listAt listHeard send.sendAnswer send.atWriting
     write-ends n hq b v hv =
         rw (← send-tree b (send.step (sessionIn b .st) false SendNext.Sent) (rw (← hv, hq) refl)) (sent-ends frame e ws log b buf len)

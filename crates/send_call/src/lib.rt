@@ -7,6 +7,10 @@ use asking::ask_status;
 use asking::ask_write;
 use receive::polled::PollAt;
 use receive::polled::PollKind;
+use run_end::RunEnd;
+use run_end::done_end;
+use run_end::error_end;
+use run_end::fault_end;
 use sdpcm::header::put_data;
 use sdpcm::status::f2_ready;
 use send::OutPacket;
@@ -16,12 +20,8 @@ use sending::SendNow;
 use sending::SentKind;
 use sending::send_answer;
 use sending::send_start;
-use turning::RunEnd;
 use turning::back_end;
-use turning::error_end;
-use turning::fault_end;
 use turning::is_back;
-use turning::value_end;
 use undo::keep;
 ghost use mathlib.Core.Path.{_≡_};
 ghost use mathlib.Core.Bool.{true, false};
@@ -45,6 +45,7 @@ ghost use Rattle.turn.specs.Onward.{go};
 ghost use Rattle.undo.specs.Undo.{Kept};
 ghost use Rattle.asking.specs.Asking.{Asks, Grew};
 ghost use Rattle.sending.specs.Sending.{Covered, pointOf};
+ghost use Rattle.run_end.specs.RunEnd as ending;
 ghost use Rattle.turning.specs.Turning as turning;
 ghost use Rattle.send_call.specs.SendCall as to;
 
@@ -83,7 +84,7 @@ fn onward(p: SendAt, pos: usize, len: usize) -> SendTurned
         on: true,
         at: p,
         pos: pos,
-        end: value_end(0, len),
+        end: done_end(len),
     }
 }
 
@@ -97,7 +98,7 @@ fn send_now(n: SendNow, pos: usize, len: usize) -> SendTurned
     let x = n.error;
     match k {
         SentKind::Ask => onward(p, pos, len),
-        SentKind::Sent => over(value_end(0, len)),
+        SentKind::Sent => over(done_end(len)),
         SentKind::Refused => over(error_end(x, len)),
     }
 }
@@ -237,7 +238,7 @@ fn write_end(n: u16, pos: usize, len: usize, rec: &[u32], log: &mut [u32], buf: 
     if a.fault {
         return fault_end(a.value, a.len);
     }
-    value_end(0, a.len)
+    done_end(a.len)
 }
 
 // The device is not ready yet.

@@ -9,15 +9,14 @@ use asking::ask_status;
 use asking::ask_wait;
 use receive::polled::PollAt;
 use receive::polled::PollKind;
-use wlan::DriverError;
-use wlan::numbers::error_number;
-use wlan::numbers::error_value;
+use run_end::EndKind;
+use run_end::RunEnd;
+use run_end::no_failure;
 ghost use mathlib.Core.Path.{_≡_};
 ghost use mathlib.Core.Bool.{true, false};
 ghost use mathlib.Core.List.{List};
 ghost use Prim.Native.Nat.{ℕ};
 ghost use lib.ListN.{length};
-ghost use Rattle.wlan.specs.Outcome.{errorNumber, errorValue};
 ghost use Rattle.definition.specs.Bus.{Bytes};
 ghost use Rattle.definition.specs.Prog.{World};
 ghost use Rattle.definition.specs.Run.{End};
@@ -26,14 +25,6 @@ ghost use Rattle.receive.specs.Receive.{pointOf};
 ghost use Rattle.undo.specs.Undo.{Kept};
 ghost use Rattle.asking.specs.Asking.{Asks, KeptOn, followed};
 ghost use Rattle.turning.specs.Turning as to;
-
-// How a run ended, as numbers. back: all is to be as before the call.
-pub struct RunEnd {
-    pub back: bool,
-    pub refusal: u32,
-    pub value: u64,
-    pub len: usize,
-}
 
 // The operation at q.
 pub fn device_ask(
@@ -74,14 +65,14 @@ pub fn is_back(a: Asked) -> bool
     }
 }
 
-fn back_number(b: Back) -> u32
-    ensures { λ r. ⌜ r ≡ to.backNumber b ⌝ }
+fn back_kind(b: Back) -> EndKind
+    ensures { λ r. ⌜ r ≡ to.backKind b ⌝ }
 {
     match b {
-        Back::No => 0,
-        Back::Unrecorded => 8,
-        Back::WrongAnswer => 9,
-        Back::LogFull => 12,
+        Back::No => EndKind::Done,
+        Back::Unrecorded => EndKind::Unrecorded,
+        Back::WrongAnswer => EndKind::WrongAnswer,
+        Back::LogFull => EndKind::LogFull,
     }
 }
 
@@ -92,42 +83,9 @@ pub fn back_end(a: Asked) -> RunEnd
     let b = a.back;
     RunEnd {
         back: true,
-        refusal: back_number(b),
+        kind: back_kind(b),
         value: 0,
+        failure: no_failure(),
         len: a.len,
-    }
-}
-
-// 7, with the fault's place.
-pub fn fault_end(place: u64, len: usize) -> RunEnd
-    ensures { λ r. ⌜ r ≡ to.endBy 7 place len ⌝ }
-{
-    RunEnd {
-        back: false,
-        refusal: 7,
-        value: place,
-        len: len,
-    }
-}
-
-pub fn error_end(e: DriverError, len: usize) -> RunEnd
-    ensures { λ r. ⌜ r ≡ to.endBy (errorNumber e) (errorValue e) len ⌝ }
-{
-    RunEnd {
-        back: false,
-        refusal: error_number(e),
-        value: error_value(e),
-        len: len,
-    }
-}
-
-pub fn value_end(v: u64, len: usize) -> RunEnd
-    ensures { λ r. ⌜ r ≡ to.endBy 0 v len ⌝ }
-{
-    RunEnd {
-        back: false,
-        refusal: 0,
-        value: v,
-        len: len,
     }
 }

@@ -22,7 +22,7 @@ use Rattle.poll_call.proofs.poll_asked.Lts as lts
 use Rattle.poll_call.proofs.over.Reads as over-reads
 use Rattle.poll_call.proofs.poll_valued.Reads as poll-valued-reads
 use Rattle.turning.proofs.back_end.Reads as back-end-reads
-use Rattle.turning.proofs.fault_end.Reads as fault-end-reads
+use Rattle.run_end.proofs.fault_end.Reads as fault-end-reads
 use Rattle.turning.proofs.is_back.Reads as is-back-reads
 
 is-back-requires : tie.Need-is-back-requires

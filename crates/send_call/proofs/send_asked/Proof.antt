@@ -21,7 +21,7 @@ use Rattle.send_call.proofs.send_asked.Lts as lts
 use Rattle.send_call.proofs.over.Reads as over-reads
 use Rattle.send_call.proofs.send_valued.Reads as send-valued-reads
 use Rattle.turning.proofs.back_end.Reads as back-end-reads
-use Rattle.turning.proofs.fault_end.Reads as fault-end-reads
+use Rattle.run_end.proofs.fault_end.Reads as fault-end-reads
 use Rattle.turning.proofs.is_back.Reads as is-back-reads
 
 is-back-requires : tie.Need-is-back-requires

@@ -18,7 +18,7 @@ use Rattle.send_call.proofs.status_end.Lts as lts
 use Rattle.asking.proofs.ask_status.Reads as ask-status-reads
 use Rattle.send_call.proofs.status_valued.Reads as status-valued-reads
 use Rattle.turning.proofs.back_end.Reads as back-end-reads
-use Rattle.turning.proofs.fault_end.Reads as fault-end-reads
+use Rattle.run_end.proofs.fault_end.Reads as fault-end-reads
 use Rattle.turning.proofs.is_back.Reads as is-back-reads
 
 ask-status-requires : tie.Need-ask-status-requires

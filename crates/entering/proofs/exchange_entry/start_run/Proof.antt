@@ -12,7 +12,7 @@ use Rattle.entering.proofs.exchange_entry.start_run.Tie as tie
 use Rattle.entering.proofs.exchange_entry.start_run.Reads as reads
 use Rattle.entering.proofs.exchange_entry.start_run.Lts as lts
 use Rattle.exchange_call.proofs.exchange_run.Reads as exchange-run-reads
-use Rattle.turning.proofs.error_end.Reads as error-end-reads
+use Rattle.run_end.proofs.error_end.Reads as error-end-reads
 use Rattle.turning.proofs.value_end.Reads as value-end-reads
 
 enum-told : tie.Need-enum-told

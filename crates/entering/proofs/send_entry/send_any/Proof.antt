@@ -11,7 +11,7 @@ use Rattle.entering.proofs.send_entry.send_any.Reads as reads
 use Rattle.entering.proofs.send_entry.send_any.Lts as lts
 use Rattle.requests.proofs.numbers.is_interface.Reads as is-interface-reads
 use Rattle.send_call.proofs.send_run.Reads as send-run-reads
-use Rattle.turning.proofs.error_end.Reads as error-end-reads
+use Rattle.run_end.proofs.error_end.Reads as error-end-reads
 
 is-interface-requires : tie.Need-is-interface-requires
 is-interface-requires c κs = search needs
