@@ -2,10 +2,10 @@ use mathlib.Core.Path.{refl}
 use Rattle.control.specs.Steps.{pauseNs}
 use Rattle.exchanging.specs.Exchanging.{pauseBy}
 use borrow.Author.Needs.{needs}
-use Rattle.exchange_call.proofs.asks.pause_ns.Statement.{statement}
-use Rattle.exchange_call.proofs.asks.pause_ns.Tie as tie
-use Rattle.exchange_call.proofs.asks.pause_ns.Reads as reads
-use Rattle.exchange_call.proofs.asks.pause_ns.Lts as lts
+use Rattle.exchange_call.proofs.pause_ns.Statement.{statement}
+use Rattle.exchange_call.proofs.pause_ns.Tie as tie
+use Rattle.exchange_call.proofs.pause_ns.Reads as reads
+use Rattle.exchange_call.proofs.pause_ns.Lts as lts
 
 enum-told : tie.Need-enum-told
 enum-told c = search needs

@@ -1,0 +1,72 @@
+use borrow.Author.Needs.{needs}
+use Rattle.exchange_call.proofs.pause_turn.Statement.{statement}
+use Rattle.exchange_call.proofs.pause_turn.Tie as tie
+use Rattle.exchange_call.proofs.pause_turn.Reads as reads
+use Rattle.exchange_call.proofs.pause_turn.Lts as lts
+use Rattle.asking.proofs.ask_wait.Reads as ask-wait-reads
+use Rattle.exchange_call.proofs.onward.Reads as onward-reads
+use Rattle.exchange_call.proofs.over.Reads as over-reads
+use Rattle.exchange_call.proofs.pause_ns.Reads as pause-ns-reads
+use Rattle.exchanging.proofs.plan.resume_of.Reads as resume-of-reads
+use Rattle.turning.proofs.back_end.Reads as back-end-reads
+use Rattle.turning.proofs.is_back.Reads as is-back-reads
+
+-- src/lib.rt:318:22
+pause-ns-requires : tie.Need-pause-ns-requires
+pause-ns-requires c κs = search needs
+
+-- src/lib.rt:318:9
+ask-wait-requires : tie.Need-ask-wait-requires
+ask-wait-requires c κs = search needs
+
+-- src/lib.rt:319:8
+is-back-requires : tie.Need-is-back-requires
+is-back-requires c κs = search needs
+
+-- src/lib.rt:320:21
+back-end-requires : tie.Need-back-end-requires
+back-end-requires c κs = search needs
+
+-- src/lib.rt:320:9
+over-requires : tie.Need-over-requires
+over-requires c κs = search needs
+
+-- src/lib.rt:320:9
+same-length : tie.Need-same-length
+same-length c = search needs
+
+-- src/lib.rt:320:9
+returns : tie.Need-returns
+returns c = ?
+
+-- src/lib.rt:322:12
+resume-of-requires : tie.Need-resume-of-requires
+resume-of-requires c κs = search needs
+
+-- src/lib.rt:322:5
+onward-requires : tie.Need-onward-requires
+onward-requires c κs = search needs
+
+-- src/lib.rt:314:1
+same-length-2 : tie.Need-same-length-2
+same-length-2 c = search needs
+
+-- src/lib.rt:314:1
+returns-2 : tie.Need-returns-2
+returns-2 c = ?
+
+pub pause-turn-spec : {M : Type 1} → statement M
+pause-turn-spec =
+    tie.close
+    (tie.spec
+    pause-ns-requires
+    ask-wait-requires
+    is-back-requires
+    back-end-requires
+    over-requires
+    same-length
+    returns
+    resume-of-requires
+    onward-requires
+    same-length-2
+    returns-2)
