@@ -1,3 +1,8 @@
+-- <<
+use mathlib.Core.Path.{_∙_}
+use native.Mathlib.Omega.{arith}
+use Rattle.turning.proofs.Laws.{asked-grew, not-back}
+-- >>
 use borrow.Author.Needs.{needs}
 use Rattle.exchange_call.proofs.ioctl_turn.Statement.{statement}
 use Rattle.exchange_call.proofs.ioctl_turn.Tie as tie
@@ -12,7 +17,7 @@ ioctl-ask-requires c κs = search needs
 
 -- src/lib.rt:176:5
 ioctl-asked-requires : tie.Need-ioctl-asked-requires
-ioctl-asked-requires c κs = ?
+ioctl-asked-requires c κs = (c .before .before .before .before .before .before .before .before .before .before .before .before .before .before .before .before .before .before .pre .0, (c .before .before .before .before .before .before .before .before .before .ioctl-ask .ensures .1 .kept, omega (arith, c .before .before .before .before .before .before .before .before .before .before .before .before .before .before .before .before .before .before .pre .1 .1)))
 
 -- src/lib.rt:155:1
 same-length : tie.Need-same-length
@@ -32,7 +37,7 @@ same-length-4 c = search needs
 
 -- src/lib.rt:155:1
 returns : tie.Need-returns
-returns c = ?
+returns c = let w = c .before .before .before .before .before .before .ioctl-asked .ensures .1 .0 .1 in let k = c .before .before .before .before .before .before .ioctl-asked .ensures .1 .1 .1 in (λ x g f e. c .before .before .before .before .before .before .ioctl-asked .ensures .0 x g (c .before .before .before .before .before .before .before .before .before .before .before .before .before .before .before .before .before .before .before .before .before .before .before .before .before .args .rec .now) (c .before .before .before .before .before .before .before .before .before .before .before .before .before .before .before .before .before .before .before .before .before .before .before .before .before .args .log .now) _ (c .before .before .before .before .before .before .before .before .before .before .before .before .before .before .before .before .before .before .before .before .before .before .before .before .before .args .pos) (c .before .before .before .before .before .before .before .before .before .before .before .before .before .before .before .before .before .before .before .before .before .before .before .before .before .args .len) (c .before .before .before .before .before .before .before .before .before .before .before .before .before .before .before .before .before .before .before .before .before .before .before .before .before .args .buf .now) f (c .before .before .before .before .before .before .before .before .before .before .before .before .before .before .before .before .ioctl-ask .ensures .0) e, (c .before .before .before .before .before .before .ioctl-asked .ensures .1 .0 .0, (c .before .before .before .before .before .before .ioctl-asked .ensures .1 .1 .0, (record { kept = k .kept; session = k .session ∙ c .before .before .before .before .before .before .before .before .before .before .before .before .before .before .before .before .ioctl-ask .ensures .1 .session (c .before .before .before .before .before .before .before .before .before .before .before .before .before .before .before .before .before .before .before .before .before .before .before .before .before .args .s .now); buf = k .buf ∙ c .before .before .before .before .before .before .before .before .before .before .before .before .before .before .before .before .ioctl-ask .ensures .1 .buf }, λ i. rw w (asked-grew (c .before .before .before .before .before .before .before .before .before .before .before .before .before .before .before .before .ioctl-ask .ensures .0) (not-back _ (rw w at i)))))))
 
 pub ioctl-turn-spec : {M : Type 1} → statement M
 ioctl-turn-spec =

@@ -1,3 +1,9 @@
+-- <<
+use mathlib.Core.Path.{refl}
+use Rattle.send.specs.Send.{sendOp}
+use Rattle.sending.specs.Sending as send
+use Rattle.turning.proofs.Laws.{still-kept}
+-- >>
 use borrow.Author.Needs.{needs}
 use Rattle.exchange_call.proofs.asks.sending_ask.Statement.{statement}
 use Rattle.exchange_call.proofs.asks.sending_ask.Tie as tie
@@ -125,7 +131,8 @@ same-length-13 c = search needs
 
 -- src/asks.rt:23:1
 returns-5 : tie.Need-returns-5
-returns-5 c = ?
+unfolding sendOp send.pointBy
+returns-5 c = simp (c .before .before .before .before .enum-told5 .given .1) (c .before .before .ask-status .ensures (c .before .before .before .before .before .before .before .before .before .before .args .buf .now), still-kept (c .before .before .before .before .before .before .before .before .before .before .pre .0) refl)
 
 -- src/asks.rt:23:1
 same-length-14 : tie.Need-same-length-14
@@ -137,7 +144,8 @@ same-length-15 c = search needs
 
 -- src/asks.rt:23:1
 returns-6 : tie.Need-returns-6
-returns-6 c = ?
+unfolding sendOp send.pointBy
+returns-6 c = simp (c .before .before .before .before .before .enum-told6 .given .1) (c .before .before .ask-write .ensures, still-kept (c .before .before .before .before .before .before .before .before .before .before .before .pre .0) refl)
 
 pub sending-ask-spec : {M : Type 1} → statement M
 sending-ask-spec =
