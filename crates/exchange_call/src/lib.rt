@@ -248,13 +248,7 @@ fn ending_end(e: Ending, buf: &[u8], len: usize) -> RunEnd
 }
 
 // After stage g's exchange.
-fn exchange_over(
-    j: Job,
-    g: Stage,
-    t: IoctlTurned,
-    undo: &mut [u8],
-    buf: &mut [u8],
-) -> CallTurned
+fn exchange_over(j: Job, g: Stage, t: IoctlTurned, undo: &mut [u8], buf: &mut [u8]) -> CallTurned
     requires { ⌜ Kept (now undo) ⌝ }
     requires { ⌜ length (now buf) ≡ 2048 ⌝ }
     requires { ⌜ to.onOf t ≡ false ⌝ }

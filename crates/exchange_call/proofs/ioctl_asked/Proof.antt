@@ -1,4 +1,3 @@
--- <<
 use mathlib.Core.Path.{_≡_, refl, sym, ap, _∙_}
 use Prim.Native.Nat.{ℕ, _%_}
 use native.Mathlib.Omega.{arith}
@@ -7,7 +6,6 @@ use Rattle.ioctl.specs.declared.IoctlNext.{IoctlNext}
 use Rattle.replying.specs.Replying.{pointOf}
 use Rattle.replying.proofs.Laws.{fault-replies}
 use Rattle.exchange_call.proofs.Laws.{back-comes, fault-comes, value-comes}
--- >>
 use borrow.Author.Needs.{needs}
 use Rattle.exchange_call.proofs.ioctl_asked.Statement.{statement}
 use Rattle.exchange_call.proofs.ioctl_asked.Tie as tie
@@ -19,59 +17,45 @@ use Rattle.replying.proofs.ioctl_answer.Reads as ioctl-answer-reads
 use Rattle.replying.proofs.ioctl_fault.Reads as ioctl-fault-reads
 use Rattle.turning.proofs.is_back.Reads as is-back-reads
 
--- src/lib.rt:145:8
 is-back-requires : tie.Need-is-back-requires
 is-back-requires c κs = search needs
 
--- src/lib.rt:146:36
 ioctl-fault-requires : tie.Need-ioctl-fault-requires
 ioctl-fault-requires c κs = search needs
 
--- src/lib.rt:146:9
 ioctl-turned-requires : tie.Need-ioctl-turned-requires
 ioctl-turned-requires c κs = search needs
 
--- src/lib.rt:146:9
 returns : tie.Need-returns
 returns c = let i = sym (c .before .before .before .is-back .ensures) ∙ c .before .before .if1 .taken in (λ x g rec log₀ log pos len b f h e. back-comes x g f (pointOf (c .before .before .before .before .before .before .before .args .p)) (c .before .before .before .before .before .before .before .args .a) h e (c .before .before .before .before .before .before .before .args .s .now) (c .before .before .before .before .before .before .before .args .s .now) (c .before .before .before .before .before .before .before .args .buf .now) (c .ioctl-turned .result) (c .ioctl-turned .ensures .2) i, ((rw (c .ioctl-turned .ensures .0, c .ioctl-turned .ensures .2, i) refl, c .ioctl-turned .ensures .2), (c .before .before .before .before .before .before .before .pre .0, record { kept = c .before .before .before .before .before .before .before .pre .1 .0; session = refl; buf = refl })))
 
--- src/lib.rt:149:37
 cast-ioctl-fault : tie.Need-cast-ioctl-fault
 cast-ioctl-fault c = search needs
 
--- src/lib.rt:149:25
 ioctl-fault-requires-2 : tie.Need-ioctl-fault-requires-2
 ioctl-fault-requires-2 c κs = search needs
 
--- src/lib.rt:149:9
 answered-requires : tie.Need-answered-requires
 answered-requires c κs = search needs
 
--- src/lib.rt:149:9
 returns-2 : tie.Need-returns-2
 returns-2 c = let i = sym (c .before .before .before .before .before .is-back .ensures) ∙ c .before .before .before .before .if1 .left in let v = c .before .before .before .before .before .before .before .before .before .args .a .value in (λ x g rec log₀ log pos len b f h e. fault-comes x g f (pointOf (c .before .before .before .before .before .before .before .before .before .args .p)) (c .before .before .before .before .before .before .before .before .before .args .a) h e (c .before .before .before .before .before .before .before .before .before .args .s .now) (c .before .before .before .before .before .before .before .before .before .args .s .now) (c .before .before .before .before .before .before .before .before .before .args .buf .now) (c .answered .result) (c .answered .ensures .2) i (c .before .before .before .if2 .taken) {u = c .before .before .before .before .before .before .before .before .before .args .undo .now} {v = c .before .before .before .before .before .before .before .before .before .args .undo .now} (λ w m. let z : v % 256 ≡ v = omega (arith, m) in rw (c .answered .ensures .1) (fault-replies _ _ (pointOf (c .before .before .before .before .before .before .before .before .before .args .p)) v _ (c .before .before .before .before .before .before .before .before .before .pre .1 .0) (c .before .before .before .before .before .before .before .before .before .pre .0) w (λ hh. c .before .ioctl-fault2 .ensures hh ∙ ap (λ (y : ℕ). IoctlNext.Refused hh (DriverError.Fault y)) z))), ((rw (c .answered .ensures .0, c .answered .ensures .1, c .answered .ensures .2, i) refl, c .answered .ensures .2), (c .before .before .before .before .before .before .before .before .before .pre .0, record { kept = c .before .before .before .before .before .before .before .before .before .pre .1 .0; session = refl; buf = refl })))
 
--- src/lib.rt:151:14
 ioctl-answer-requires : tie.Need-ioctl-answer-requires
 ioctl-answer-requires c κs = search needs
 
--- src/lib.rt:151:5
 answered-requires-2 : tie.Need-answered-requires-2
 answered-requires-2 c κs = search needs
 
--- src/lib.rt:129:1
 same-length : tie.Need-same-length
 same-length c = search needs
 
--- src/lib.rt:129:1
 same-length-2 : tie.Need-same-length-2
 same-length-2 c = search needs
 
--- src/lib.rt:129:1
 same-length-3 : tie.Need-same-length-3
 same-length-3 c = search needs
 
--- src/lib.rt:129:1
 returns-3 : tie.Need-returns-3
 returns-3 c = let i = sym (c .before .before .before .before .before .before .before .before .before .before .before .before .before .is-back .ensures) ∙ c .before .before .before .before .before .before .before .before .before .before .before .before .if1 .left in (λ x g rec log₀ log pos len b f h e. value-comes x g f (pointOf (c .before .before .before .before .before .before .before .before .before .before .before .before .before .before .before .before .before .args .p)) (c .before .before .before .before .before .before .before .before .before .before .before .before .before .before .before .before .before .args .a) h e (c .before .before .before .before .before .before .before .before .before .before .before .before .before .before .before .before .before .args .s .now) (c .before .before .before .before .before .before .before .ioctl-answer .last .0) (c .before .before .before .before .before .before .before .ioctl-answer .last .1 .1 .0) (c .answered2 .result) (c .answered2 .ensures .2) i (c .before .before .before .before .before .before .before .before .before .before .before .if2 .left) {u = c .before .before .before .before .before .before .before .before .before .before .before .before .before .before .before .before .before .args .undo .now} {v = c .before .before .before .before .before .before .before .ioctl-answer .last .1 .0} (rw (c .answered2 .ensures .1) (c .before .before .before .before .before .before .before .ioctl-answer .ensures)), ((rw (c .answered2 .ensures .0, c .answered2 .ensures .1, c .answered2 .ensures .2, i) refl, c .answered2 .ensures .2), (c .before .before .before .before .before .before .before .ioctl-answer .ensures .held .known, record { kept = c .before .before .before .before .before .before .before .ioctl-answer .ensures .kept; session = c .before .before .before .before .before .before .before .ioctl-answer .ensures .session; buf = c .before .before .before .before .before .before .before .ioctl-answer .ensures .buf })))
 

@@ -1,8 +1,6 @@
--- <<
 use mathlib.Core.Path.{_∙_}
 use native.Mathlib.Omega.{arith}
 use Rattle.turning.proofs.Laws.{asked-grew, not-back}
--- >>
 use borrow.Author.Needs.{needs}
 use Rattle.exchange_call.proofs.ioctl_turn.Statement.{statement}
 use Rattle.exchange_call.proofs.ioctl_turn.Tie as tie
@@ -11,31 +9,24 @@ use Rattle.exchange_call.proofs.ioctl_turn.Lts as lts
 use Rattle.exchange_call.proofs.asks.ioctl_ask.Reads as ioctl-ask-reads
 use Rattle.exchange_call.proofs.ioctl_asked.Reads as ioctl-asked-reads
 
--- src/lib.rt:175:9
 ioctl-ask-requires : tie.Need-ioctl-ask-requires
 ioctl-ask-requires c κs = search needs
 
--- src/lib.rt:176:5
 ioctl-asked-requires : tie.Need-ioctl-asked-requires
 ioctl-asked-requires c κs = (c .before .before .before .before .before .before .before .before .before .before .before .before .before .before .before .before .before .before .pre .0, (c .before .before .before .before .before .before .before .before .before .ioctl-ask .ensures .1 .kept, omega (arith, c .before .before .before .before .before .before .before .before .before .before .before .before .before .before .before .before .before .before .pre .1 .1)))
 
--- src/lib.rt:155:1
 same-length : tie.Need-same-length
 same-length c = search needs
 
--- src/lib.rt:155:1
 same-length-2 : tie.Need-same-length-2
 same-length-2 c = search needs
 
--- src/lib.rt:155:1
 same-length-3 : tie.Need-same-length-3
 same-length-3 c = search needs
 
--- src/lib.rt:155:1
 same-length-4 : tie.Need-same-length-4
 same-length-4 c = search needs
 
--- src/lib.rt:155:1
 returns : tie.Need-returns
 returns c = let w = c .before .before .before .before .before .before .ioctl-asked .ensures .1 .0 .1 in let k = c .before .before .before .before .before .before .ioctl-asked .ensures .1 .1 .1 in (λ x g f e. c .before .before .before .before .before .before .ioctl-asked .ensures .0 x g (c .before .before .before .before .before .before .before .before .before .before .before .before .before .before .before .before .before .before .before .before .before .before .before .before .before .args .rec .now) (c .before .before .before .before .before .before .before .before .before .before .before .before .before .before .before .before .before .before .before .before .before .before .before .before .before .args .log .now) _ (c .before .before .before .before .before .before .before .before .before .before .before .before .before .before .before .before .before .before .before .before .before .before .before .before .before .args .pos) (c .before .before .before .before .before .before .before .before .before .before .before .before .before .before .before .before .before .before .before .before .before .before .before .before .before .args .len) (c .before .before .before .before .before .before .before .before .before .before .before .before .before .before .before .before .before .before .before .before .before .before .before .before .before .args .buf .now) f (c .before .before .before .before .before .before .before .before .before .before .before .before .before .before .before .before .ioctl-ask .ensures .0) e, (c .before .before .before .before .before .before .ioctl-asked .ensures .1 .0 .0, (c .before .before .before .before .before .before .ioctl-asked .ensures .1 .1 .0, (record { kept = k .kept; session = k .session ∙ c .before .before .before .before .before .before .before .before .before .before .before .before .before .before .before .before .ioctl-ask .ensures .1 .session (c .before .before .before .before .before .before .before .before .before .before .before .before .before .before .before .before .before .before .before .before .before .before .before .before .before .args .s .now); buf = k .buf ∙ c .before .before .before .before .before .before .before .before .before .before .before .before .before .before .before .before .ioctl-ask .ensures .1 .buf }, λ i. rw w (asked-grew (c .before .before .before .before .before .before .before .before .before .before .before .before .before .before .before .before .ioctl-ask .ensures .0) (not-back _ (rw w at i)))))))
 

@@ -1,4 +1,3 @@
--- <<
 use mathlib.Core.Path.{sym, _∙_}
 use mathlib.Core.Bool.{true≢false}
 use mathlib.Core.List.{[]}
@@ -10,7 +9,6 @@ use Rattle.control.specs.Steps.{callOp}
 use Rattle.exchanging.specs.Exchanging.{pauseBy}
 use Rattle.turning.proofs.Laws.{asked-grew, not-back}
 use Rattle.exchange_call.proofs.Laws.{back-turns, any-turns}
--- >>
 use borrow.Author.Needs.{needs}
 use Rattle.exchange_call.proofs.pause_turn.Statement.{statement}
 use Rattle.exchange_call.proofs.pause_turn.Tie as tie
@@ -24,48 +22,37 @@ use Rattle.exchanging.proofs.plan.resume_of.Reads as resume-of-reads
 use Rattle.turning.proofs.back_end.Reads as back-end-reads
 use Rattle.turning.proofs.is_back.Reads as is-back-reads
 
--- src/lib.rt:318:22
 pause-ns-requires : tie.Need-pause-ns-requires
 pause-ns-requires c κs = search needs
 
--- src/lib.rt:318:9
 ask-wait-requires : tie.Need-ask-wait-requires
 ask-wait-requires c κs = search needs
 
--- src/lib.rt:319:8
 is-back-requires : tie.Need-is-back-requires
 is-back-requires c κs = search needs
 
--- src/lib.rt:320:21
 back-end-requires : tie.Need-back-end-requires
 back-end-requires c κs = search needs
 
--- src/lib.rt:320:9
 over-requires : tie.Need-over-requires
 over-requires c κs = search needs
 
--- src/lib.rt:320:9
 same-length : tie.Need-same-length
 same-length c = search needs
 
--- src/lib.rt:320:9
 returns : tie.Need-returns
 unfolding callOp
 returns c = let i = sym (c .before .before .before .is-back .ensures) ∙ c .before .before .if1 .taken in (λ x e rec b buf m. back-turns x m (CallPoint.Pause (pauseBy (c .before .before .before .before .before .before .before .before .before .before .args .p) (c .before .before .before .before .before .before .before .before .before .before .args .ns))) (c .before .before .before .before .before .before .ask-wait .result) (rw (c .before .before .before .before .before .before .before .before .pause-ns .ensures) at (c .before .before .before .before .before .before .ask-wait .ensures rec buf)) e b (c .over .result) (c .before .back-end .result) (c .over .ensures .0) (c .over .ensures .1) (λ on. c .before .back-end .ensures e on _ b buf i), λ t. absurd (true≢false (sym t ∙ c .over .ensures .0)))
 
--- src/lib.rt:322:12
 resume-of-requires : tie.Need-resume-of-requires
 resume-of-requires c κs = search needs
 
--- src/lib.rt:322:5
 onward-requires : tie.Need-onward-requires
 onward-requires c κs = search needs
 
--- src/lib.rt:314:1
 same-length-2 : tie.Need-same-length-2
 same-length-2 c = search needs
 
--- src/lib.rt:314:1
 returns-2 : tie.Need-returns-2
 unfolding callOp callAnswer
 returns-2 c = let i = sym (c .before .before .before .is-back .ensures) ∙ c .before .before .if1 .left in let g = asked-grew (c .before .before .before .before .before .before .ask-wait .ensures [] []) (not-back _ i) in let l = c .onward .ensures .3 in (λ x e rec b buf m. any-turns x m (CallPoint.Pause (pauseBy (c .before .before .before .before .before .before .before .before .before .before .args .p) (c .before .before .before .before .before .before .before .before .before .before .args .ns))) (c .before .before .before .before .before .before .ask-wait .result) (rw (c .before .before .before .before .before .before .before .before .pause-ns .ensures) at (c .before .before .before .before .before .before .ask-wait .ensures rec buf)) e b (c .onward .result) i (c .before .resume-of .result) (c .onward .ensures .0, c .onward .ensures .1, c .onward .ensures .2, c .onward .ensures .3) (λ y z. c .before .resume-of .ensures (c .before .before .before .before .before .before .before .before .before .before .args .ns) (x .job) (lensOf x) _), λ t. (omega (arith, g .0, l), omega (arith, g .1, l)))

@@ -1,6 +1,4 @@
--- <<
 use Rattle.replying.specs.Replying.{pointBy}
--- >>
 use borrow.Author.Needs.{needs}
 use Rattle.replying.proofs.send_at.Statement.{statement}
 use Rattle.replying.proofs.send_at.Tie as tie
@@ -9,19 +7,15 @@ use Rattle.replying.proofs.send_at.Lts as lts
 use Rattle.replying.proofs.asks.Reads as asks-reads
 use Rattle.replying.proofs.unpolled.Reads as unpolled-reads
 
--- src/lib.rt:307:17
 unpolled-requires : tie.Need-unpolled-requires
 unpolled-requires c κs = search needs
 
--- src/lib.rt:312:9
 unpolled-requires-2 : tie.Need-unpolled-requires-2
 unpolled-requires-2 c κs = search needs
 
--- src/lib.rt:303:5
 asks-requires : tie.Need-asks-requires
 asks-requires c κs = search needs
 
--- src/lib.rt:300:1
 returns : tie.Need-returns
 unfolding pointBy
 returns c = λ h. rw (← c .before .before .unpolled .ensures) (c .asks .ensures h)

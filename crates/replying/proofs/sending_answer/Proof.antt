@@ -1,10 +1,8 @@
--- <<
 use mathlib.Core.Bool.{false}
 use Rattle.send.specs.Send as snd
 use Rattle.ioctl.specs.Ioctl.{sendingStep, sendingNext}
 use Rattle.sending.specs.Sending as send
 use Rattle.replying.proofs.Laws.{still, unlaid}
--- >>
 use borrow.Author.Needs.{needs}
 use Rattle.replying.proofs.sending_answer.Statement.{statement}
 use Rattle.replying.proofs.sending_answer.Tie as tie
@@ -14,132 +12,100 @@ use Rattle.replying.proofs.ready_read.Reads as ready-read-reads
 use Rattle.replying.proofs.sent.Reads as sent-reads
 use Rattle.replying.proofs.stall_answer.Reads as stall-answer-reads
 
--- src/lib.rt:364:41
 enum-told : tie.Need-enum-told
 enum-told c = search needs
 
--- src/lib.rt:364:28
 stall-answer-requires : tie.Need-stall-answer-requires
 stall-answer-requires c κs = search needs
 
--- src/lib.rt:365:43
 enum-told-2 : tie.Need-enum-told-2
 enum-told-2 c = search needs
 
--- src/lib.rt:365:30
 stall-answer-requires-2 : tie.Need-stall-answer-requires-2
 stall-answer-requires-2 c κs = search needs
 
--- src/lib.rt:366:40
 enum-told-3 : tie.Need-enum-told-3
 enum-told-3 c = search needs
 
--- src/lib.rt:366:27
 stall-answer-requires-3 : tie.Need-stall-answer-requires-3
 stall-answer-requires-3 c κs = search needs
 
--- src/lib.rt:367:42
 enum-told-4 : tie.Need-enum-told-4
 enum-told-4 c = search needs
 
--- src/lib.rt:367:29
 stall-answer-requires-4 : tie.Need-stall-answer-requires-4
 stall-answer-requires-4 c κs = search needs
 
--- src/lib.rt:368:53
 enum-told-5 : tie.Need-enum-told-5
 enum-told-5 c = search needs
 
--- src/lib.rt:368:52
 cast-ready-read : tie.Need-cast-ready-read
 cast-ready-read c = search needs
 
--- src/lib.rt:368:28
 ready-read-requires : tie.Need-ready-read-requires
 ready-read-requires c κs = search needs
 
--- src/lib.rt:369:35
 enum-told-6 : tie.Need-enum-told-6
 enum-told-6 c = search needs
 
--- src/lib.rt:369:30
 sent-requires : tie.Need-sent-requires
 sent-requires c κs = search needs
 
--- src/lib.rt:349:1
 same-length : tie.Need-same-length
 same-length c = search needs
 
--- src/lib.rt:349:1
 same-length-2 : tie.Need-same-length-2
 same-length-2 c = search needs
 
--- src/lib.rt:349:1
 same-length-3 : tie.Need-same-length-3
 same-length-3 c = search needs
 
--- src/lib.rt:349:1
 returns : tie.Need-returns
 returns c = search needs
 
--- src/lib.rt:349:1
 same-length-4 : tie.Need-same-length-4
 same-length-4 c = search needs
 
--- src/lib.rt:349:1
 same-length-5 : tie.Need-same-length-5
 same-length-5 c = search needs
 
--- src/lib.rt:349:1
 same-length-6 : tie.Need-same-length-6
 same-length-6 c = search needs
 
--- src/lib.rt:349:1
 returns-2 : tie.Need-returns-2
 returns-2 c = search needs
 
--- src/lib.rt:349:1
 same-length-7 : tie.Need-same-length-7
 same-length-7 c = search needs
 
--- src/lib.rt:349:1
 same-length-8 : tie.Need-same-length-8
 same-length-8 c = search needs
 
--- src/lib.rt:349:1
 same-length-9 : tie.Need-same-length-9
 same-length-9 c = search needs
 
--- src/lib.rt:349:1
 returns-3 : tie.Need-returns-3
 returns-3 c = search needs
 
--- src/lib.rt:349:1
 same-length-10 : tie.Need-same-length-10
 same-length-10 c = search needs
 
--- src/lib.rt:349:1
 same-length-11 : tie.Need-same-length-11
 same-length-11 c = search needs
 
--- src/lib.rt:349:1
 same-length-12 : tie.Need-same-length-12
 same-length-12 c = search needs
 
--- src/lib.rt:349:1
 returns-4 : tie.Need-returns-4
 returns-4 c = search needs
 
--- src/lib.rt:349:1
 returns-5 : tie.Need-returns-5
 unfolding snd.sendAnswer snd.atReady send.pointBy
 returns-5 c = rw (c .before .enum-told5 .given .1) (unlaid _ (c .before .before .before .before .before .before .pre .1 .0) (c .before .before .before .before .before .before .pre .0) (still (c .before .before .before .before .before .before .pre .0) (c .ready-read .ensures _ _)))
 
--- src/lib.rt:349:1
 same-length-13 : tie.Need-same-length-13
 same-length-13 c = search needs
 
--- src/lib.rt:349:1
 returns-6 : tie.Need-returns-6
 unfolding snd.sendAnswer snd.atWriting send.pointBy sendingStep sendingNext
 returns-6 c = rw (c .before .before .before .before .enum-told6 .given .1) (unlaid _ (c .before .before .before .before .before .before .before .before .before .pre .1 .0) (c .before .before .before .before .before .before .before .before .before .pre .0) (c .before .before .sent .ensures false))

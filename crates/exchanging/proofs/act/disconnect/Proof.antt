@@ -1,7 +1,5 @@
--- <<
 use mathlib.Core.Path.{refl}
 use Rattle.exchanging.proofs.Laws.{set}
--- >>
 use borrow.Author.Needs.{needs}
 use Rattle.exchanging.proofs.act.disconnect.Statement.{statement}
 use Rattle.exchanging.proofs.act.disconnect.Tie as tie
@@ -11,23 +9,18 @@ use Rattle.exchanging.proofs.now.end.Reads as end-reads
 use Rattle.places.proofs.write.put_tick.Reads as put-tick-reads
 use Rattle.places.proofs.write.put_wifi.Reads as put-wifi-reads
 
--- src/act.rt:81:5
 put-wifi-requires : tie.Need-put-wifi-requires
 put-wifi-requires c κs = search needs
 
--- src/act.rt:82:5
 put-tick-requires : tie.Need-put-tick-requires
 put-tick-requires c κs = search needs
 
--- src/act.rt:83:5
 end-requires : tie.Need-end-requires
 end-requires c κs = search needs
 
--- src/act.rt:77:1
 same-length : tie.Need-same-length
 same-length c = search needs
 
--- src/act.rt:77:1
 returns : tie.Need-returns
 returns c = λ h before. set (rw (c .before .before .before .before .before .before .before .put-wifi .ensures .back) at (c .before .before .before .put-tick .ensures)) (c .end .ensures) refl
 

@@ -1,4 +1,3 @@
--- <<
 use mathlib.Core.Path.{ap, _∙_}
 use native.Mathlib.Omega.{arith}
 use Rattle.definition.specs.Bus.{Bytes}
@@ -6,7 +5,6 @@ use Rattle.control.specs.Meaning.{laidRequest}
 use Rattle.effects.specs.Args.{argsOf}
 use Rattle.exchanging.specs.Exchanging.{putBy}
 use Rattle.exchanging.proofs.Laws.{laid-first}
--- >>
 use borrow.Author.Needs.{needs}
 use Rattle.exchanging.proofs.begin.begin_put.Statement.{statement}
 use Rattle.exchanging.proofs.begin.begin_put.Tie as tie
@@ -18,39 +16,30 @@ use Rattle.exchanging.proofs.begin.new_id.Reads as new-id-reads
 use Rattle.steps.proofs.stages.request_at.Reads as request-at-reads
 use Rattle.steps.proofs.stages.request_len.Reads as request-len-reads
 
--- src/begin.rt:171:9
 request-at-requires : tie.Need-request-at-requires
 request-at-requires c κs = search needs
 
--- src/begin.rt:172:9
 new-id-requires : tie.Need-new-id-requires
 new-id-requires c κs = search needs
 
--- src/begin.rt:173:5
 lay-by-requires : tie.Need-lay-by-requires
 lay-by-requires c κs = search needs
 
--- src/begin.rt:174:33
 request-len-requires : tie.Need-request-len-requires
 request-len-requires c κs = search needs
 
--- src/begin.rt:174:5
 begin-laid-requires : tie.Need-begin-laid-requires
 begin-laid-requires c κs = (c .before .before .before .before .before .before .before .before .before .before .before .before .before .before .before .before .before .before .before .pre .0, (c .before .before .before .before .before .before .before .before .lay-by .ensures .1 .kept, omega (arith, c .before .before .before .before .before .before .before .before .before .before .before .before .before .before .before .before .before .before .before .pre .1 .1)))
 
--- src/begin.rt:155:1
 same-length : tie.Need-same-length
 same-length c = search needs
 
--- src/begin.rt:155:1
 same-length-2 : tie.Need-same-length-2
 same-length-2 c = search needs
 
--- src/begin.rt:155:1
 same-length-3 : tie.Need-same-length-3
 same-length-3 c = search needs
 
--- src/begin.rt:155:1
 returns : tie.Need-returns
 returns c = λ h before c₀ e. let a = argsOf (c .before .before .before .before .before .before .before .before .before .before .before .before .before .before .before .before .before .before .before .before .before .before .before .before .before .before .args .j) (c .before .before .before .before .before .before .before .before .before .before .before .before .before .before .before .before .before .before .before .before .before .before .before .before .before .before .args .first .now) (c .before .before .before .before .before .before .before .before .before .before .before .before .before .before .before .before .before .before .before .before .before .before .before .before .before .before .args .second .now) in let put = putBy (c .before .before .before .before .before .before .before .before .before .before .before .before .before .before .before .before .before .before .before .before .before .before .before .before .before .before .args .begin) (c .before .before .before .before .before .before .before .before .before .before .before .before .before .before .before .before .before .before .before .before .request-at .result) (c .before .before .before .before .before .before .before .before .before .before .before .before .before .before .before .before .before .before .new-id .result) in laid-first (c .before .before .before .before .before .before .before .before .before .before .before .before .before .before .before .lay-by .ensures .1) (rw (c .before .before .before .before .before .before .before .request-len .ensures, c .before .before .before .before .before .before .before .before .before .before .before .before .before .before .before .before .before .before .new-id .ensures, c .before .before .before .before .before .before .before .before .before .before .before .before .before .before .before .before .before .before .before .before .request-at .ensures) at (c .before .before .before .before .before .before .begin-laid .ensures a h before put c₀ (c .before .before .before .before .before .before .before .before .before .before .before .before .before .before .before .lay-by .ensures .0 (c .before .before .before .before .before .before .before .before .before .before .before .before .before .before .before .before .before .before .before .before .before .before .before .before .before .before .args .j) ∙ ap (λ (x : Bytes). laidRequest a put x) e)))
 

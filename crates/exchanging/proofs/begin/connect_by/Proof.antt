@@ -1,7 +1,5 @@
--- <<
 use mathlib.Core.Path.{refl}
 use Rattle.exchanging.specs.Exchanging.{stateBy}
--- >>
 use borrow.Author.Needs.{needs}
 use Rattle.exchanging.proofs.begin.connect_by.Statement.{statement}
 use Rattle.exchanging.proofs.begin.connect_by.Tie as tie
@@ -15,29 +13,23 @@ enum-told c = search needs
 enum-told-2 : tie.Need-enum-told-2
 enum-told-2 c = search needs
 
--- src/begin.rt:193:41
 enum-told-3 : tie.Need-enum-told-3
 enum-told-3 c = search needs
 
--- src/begin.rt:193:30
 connecting-requires : tie.Need-connecting-requires
 connecting-requires c κs = search needs
 
--- src/begin.rt:186:1
 returns : tie.Need-returns
 unfolding stateBy
 returns c = rw (c .enum-told .given .1) (record { known = c .before .before .before .pre; back = refl })
 
--- src/begin.rt:186:1
 returns-2 : tie.Need-returns-2
 unfolding stateBy
 returns-2 c = rw (c .enum-told2 .given .1) (record { known = c .before .before .before .pre; back = refl })
 
--- src/begin.rt:186:1
 same-length : tie.Need-same-length
 same-length c = search needs
 
--- src/begin.rt:186:1
 returns-3 : tie.Need-returns-3
 unfolding stateBy
 returns-3 c = rw (c .before .before .before .before .enum-told3 .given .1) (c .before .before .connecting .ensures)

@@ -1,14 +1,11 @@
--- <<
 use borrow.Author.Needs.{needs}
 use mathlib.Core.Path.{refl}
 use Rattle.exchanging.specs.Exchanging.{planBy}
--- >>
 use Rattle.exchanging.proofs.plan.begin_at.Statement.{statement}
 use Rattle.exchanging.proofs.plan.begin_at.Tie as tie
 use Rattle.exchanging.proofs.plan.begin_at.Reads as reads
 use Rattle.exchanging.proofs.plan.begin_at.Lts as lts
 
--- src/plan.rt:91:1
 returns : tie.Need-returns
 unfolding planBy
 returns c = λ j l s h before. refl

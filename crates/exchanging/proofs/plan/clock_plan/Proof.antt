@@ -1,4 +1,3 @@
--- <<
 use mathlib.Core.Path.{refl}
 use mathlib.Core.Bool.{false}
 use Prim.Native.Nat.{_%_, _<_, _≤_}
@@ -7,7 +6,6 @@ use borrow.Author.Tests.{lt-ltb, le-ltb}
 use Rattle.control.specs.declared.Before.{Before}
 use Rattle.control.specs.Exchange.{settleStep}
 use Rattle.exchanging.specs.Exchanging.{pauseBy}
--- >>
 use borrow.Author.Needs.{needs}
 use Rattle.exchanging.proofs.plan.clock_plan.Statement.{statement}
 use Rattle.exchanging.proofs.plan.clock_plan.Tie as tie
@@ -17,36 +15,28 @@ use Rattle.exchanging.proofs.plan.begins.Reads as begins-reads
 use Rattle.exchanging.proofs.plan.waits.Reads as waits-reads
 use Rattle.send.proofs.elapsed_us.Reads as elapsed-us-reads
 
--- src/plan.rt:235:14
 elapsed-us-requires : tie.Need-elapsed-us-requires
 elapsed-us-requires c κs = search needs
 
--- src/plan.rt:235:13
 cast-e : tie.Need-cast-e
 cast-e c = search needs
 
--- src/plan.rt:237:42
 sub-waits : tie.Need-sub-waits
 sub-waits c = search needs
 
--- src/plan.rt:237:41
 mul-waits : tie.Need-mul-waits
 mul-waits c = search needs
 
--- src/plan.rt:237:9
 waits-requires : tie.Need-waits-requires
 waits-requires c κs = search needs
 
--- src/plan.rt:237:9
 returns : tie.Need-returns
 unfolding settleStep pauseBy
 returns c = λ j l s. let e : c .before .before .elapsed-us .result % 4294967296 < 150000 = omega arith in simp (← c .before .before .elapsed-us .ensures, lt-ltb _ _ e) (c .waits .ensures j l s false Before.None)
 
--- src/plan.rt:239:5
 begins-requires : tie.Need-begins-requires
 begins-requires c κs = search needs
 
--- src/plan.rt:232:1
 returns-2 : tie.Need-returns-2
 unfolding settleStep
 returns-2 c = λ j l s. let e : 150000 ≤ c .before .before .elapsed-us .result % 4294967296 = omega arith in simp (← c .before .before .elapsed-us .ensures, le-ltb _ _ e) (c .begins .ensures j l s false Before.None)

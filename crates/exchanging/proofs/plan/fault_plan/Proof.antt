@@ -1,7 +1,5 @@
--- <<
 use mathlib.Core.Path.{refl}
 use Rattle.exchanging.specs.Exchanging.{planBy}
--- >>
 use borrow.Author.Needs.{needs}
 use Rattle.exchanging.proofs.plan.fault_plan.Statement.{statement}
 use Rattle.exchanging.proofs.plan.fault_plan.Tie as tie
@@ -9,11 +7,9 @@ use Rattle.exchanging.proofs.plan.fault_plan.Reads as reads
 use Rattle.exchanging.proofs.plan.fault_plan.Lts as lts
 use Rattle.exchanging.proofs.plan.refuses.Reads as refuses-reads
 
--- src/plan.rt:261:5
 refuses-requires : tie.Need-refuses-requires
 refuses-requires c κs = search needs
 
--- src/plan.rt:258:1
 returns : tie.Need-returns
 unfolding planBy
 returns c = λ j l s. rw (c .refuses .ensures .0, c .refuses .ensures .1) refl

@@ -1,7 +1,5 @@
--- <<
 use mathlib.Core.Path.{sym, _∙_}
 use Rattle.exchanging.specs.Exchanging.{isIgnored}
--- >>
 use borrow.Author.Needs.{needs}
 use Rattle.exchanging.proofs.plan.is_ignored.Statement.{statement}
 use Rattle.exchanging.proofs.plan.is_ignored.Tie as tie
@@ -10,20 +8,16 @@ use Rattle.exchanging.proofs.plan.is_ignored.Lts as lts
 use Rattle.steps.proofs.stages.is_tried.Reads as is-tried-reads
 use Rattle.steps.proofs.steps.is_dev_error.Reads as is-dev-error-reads
 
--- src/plan.rt:282:8
 is-dev-error-requires : tie.Need-is-dev-error-requires
 is-dev-error-requires c κs = search needs
 
--- src/plan.rt:282:26
 is-tried-requires : tie.Need-is-tried-requires
 is-tried-requires c κs = search needs
 
--- src/plan.rt:279:1
 returns : tie.Need-returns
 unfolding isIgnored
 returns c = simp (sym (c .before .before .is-dev-error .ensures) ∙ c .before .if1 .taken) (c .is-tried .ensures)
 
--- src/plan.rt:279:1
 returns-2 : tie.Need-returns-2
 unfolding isIgnored
 returns-2 c = simp (sym (c .before .is-dev-error .ensures) ∙ c .if1 .left)

@@ -1,8 +1,6 @@
--- <<
 use mathlib.Core.Path.{_∙_}
 use Rattle.control.specs.Exchange as to
 use Rattle.exchanging.specs.Exchanging.{planBy, stateBy, putBy}
--- >>
 use borrow.Author.Needs.{needs}
 use Rattle.exchanging.proofs.plan.ssid_plan.Statement.{statement}
 use Rattle.exchanging.proofs.plan.ssid_plan.Tie as tie
@@ -11,20 +9,16 @@ use Rattle.exchanging.proofs.plan.ssid_plan.Lts as lts
 use Rattle.exchanging.proofs.plan.begin_at.Reads as begin-at-reads
 use Rattle.exchanging.proofs.plan.only.Reads as only-reads
 
--- src/plan.rt:179:9
 only-requires : tie.Need-only-requires
 only-requires c κs = search needs
 
--- src/plan.rt:181:9
 begin-at-requires : tie.Need-begin-at-requires
 begin-at-requires c κs = search needs
 
--- src/plan.rt:175:1
 returns : tie.Need-returns
 unfolding to.ssidStep planBy
 returns c = λ j l s h before e. simp (e ∙ c .before .if1 .taken, c .only .ensures)
 
--- src/plan.rt:175:1
 returns-2 : tie.Need-returns-2
 unfolding to.ssidStep to.begins stateBy putBy
 returns-2 c = λ j l s h before e. simp (e ∙ c .before .if1 .left) (c .begin-at .ensures j l s h before)

@@ -1,15 +1,12 @@
--- <<
 use borrow.Author.Needs.{needs}
 use mathlib.Core.Path.{refl}
 use Rattle.control.specs.Exchange.{tickAnswer}
 use Rattle.exchanging.specs.Exchanging.{planBy}
--- >>
 use Rattle.exchanging.proofs.plan.tick_plan.Statement.{statement}
 use Rattle.exchanging.proofs.plan.tick_plan.Tie as tie
 use Rattle.exchanging.proofs.plan.tick_plan.Reads as reads
 use Rattle.exchanging.proofs.plan.tick_plan.Lts as lts
 
--- src/plan.rt:243:1
 returns : tie.Need-returns
 unfolding tickAnswer planBy
 returns c = λ j l s. refl

@@ -1,14 +1,11 @@
--- <<
 use borrow.Author.Needs.{needs}
 use mathlib.Core.Path.{refl}
 use Rattle.exchanging.specs.Exchanging.{planBy}
--- >>
 use Rattle.exchanging.proofs.plan.waits.Statement.{statement}
 use Rattle.exchanging.proofs.plan.waits.Tie as tie
 use Rattle.exchanging.proofs.plan.waits.Reads as reads
 use Rattle.exchanging.proofs.plan.waits.Lts as lts
 
--- src/plan.rt:111:1
 returns : tie.Need-returns
 unfolding planBy
 returns c = λ j l s h before. refl
