@@ -1,59 +1,86 @@
--- What the rest of a recording makes of a call, from where its run stands; b: the session's bytes.
-use Prim.Native.Nat.{ℕ, _<_}
+-- What the rest of a recording makes of a call, from where its run stands; b: the session's bytes, a: the call's arguments, x: what the run
+-- comes to.
+use Prim.Native.Nat.{ℕ, _+_, _<_}
 use mathlib.Core.Path.{_≡_}
 use mathlib.Core.Bool.{Bool, true, false}
 use mathlib.Core.List.{List}
-use lib.ListN.{drop}
-use Rattle.wlan.specs.declared.BusAnswer.{BusAnswer}
-use Rattle.definition.specs.Bus.{Bytes, Ans}
-use Rattle.definition.specs.Prog.{World}
+use lib.ListN.{length, drop}
+use Rattle.slices.specs.Pick.{pick}
+use Rattle.wlan.specs.declared.AsyncEvent.{AsyncEvent}
+use Rattle.wlan.specs.declared.ScanList.{ScanList}
+use Rattle.definition.specs.Bus.{Bytes}
+use Rattle.definition.specs.Prog.{World, world}
 use Rattle.definition.specs.Run.{End}
-use Rattle.device.specs.Meaning.{told, landing, InRange}
+use Rattle.handling.specs.Handle.{listHeard}
+use Rattle.send.specs.declared.HeaderPut.{HeaderPut}
+use Rattle.send.specs.Meaning.{laidHeader}
+use Rattle.ioctl.specs.declared.IoctlPoint.{IoctlPoint}
+use Rattle.control.specs.declared.Before.{Before}
 use Rattle.control.specs.declared.CallNext.{CallNext}
 use Rattle.control.specs.declared.CallPoint.{CallPoint}
-use Rattle.control.specs.declared.Job.{Job}
-use Rattle.control.specs.Steps.{callOp}
-use Rattle.control.specs.Meaning.{Args, Kc, callTree}
-use Rattle.effects.specs.Args.{argsOf}
-use Rattle.session_bytes.specs.Session.{isSession}
+use Rattle.control.specs.declared.Stage.{Stage}
+use Rattle.control.specs.Stages.{requestAt, requestLen}
+use Rattle.control.specs.Exchange.{exchangeNext}
+use Rattle.control.specs.Meaning.{Args, lensOf, laidBefore, callTree, callShown}
+use Rattle.session_bytes.specs.Session.{sessionIn}
 use Rattle.going.specs.Onward.{go}
-use Rattle.asking.specs.declared.Asked.{Asked}
-use Rattle.asking.specs.Asking.{answerOf}
-use Rattle.exchanging.specs.declared.now.CallNow.{CallNow}
-use Rattle.exchanging.specs.declared.now.CallKind.{CallKind}
-use Rattle.exchanging.specs.Exchanging.{nextOf}
-use Rattle.turning.specs.Turning.{worldIn, Ends, KeptAll}
+use Rattle.asking.specs.Asking.{followed, unlessBack}
+use Rattle.replying.specs.declared.IoctlAt.{IoctlAt}
+use Rattle.replying.specs.declared.IoctlNow.{IoctlNow}
+use Rattle.replying.specs.Replying as reply
+use Rattle.exchanging.specs.declared.plan.Plan.{Plan}
+use Rattle.exchanging.specs.Exchanging.{planned, isAsk}
+use Rattle.turning.specs.Turning.{worldIn, isBack, Ends}
 use Rattle.exchange_call.specs.declared.CallTurned.{CallTurned}
+use Rattle.exchange_call.specs.declared.IoctlTurned.{IoctlTurned}
 
--- the run goes on to x, or came to it
+-- ---- an exchange
+
+-- stage g of arguments that fit, whose payload is n bytes long
+pub record Fits (a : Args) (g : Stage) (n : ℕ) : Type 0 where
+  pub modest : length (a .first) + length (a .second) < 60000
+  pub len : n ≡ requestLen (requestAt (a .job) g) (lensOf a)
+
+-- the run at a point of stage g's exchange
+abbrev pub askedAt : Args → Stage → World → List ℕ → List ℕ → ℕ → ℕ → IoctlAt → List ℕ → Bytes → End
+askedAt a g e rec log pos len p b buf = go e (drop pos rec) log len (callTree a (CallNext.Ask (CallPoint.Exchange g (reply.pointOf p))) (worldIn b buf))
+
+-- what follows the exchange's step n is left; its header is laid and what it heard is in the list
+pub record Answered (a : Args) (g : Stage) (e : World) (x : End) (rec : List ℕ) (n : IoctlNow) (pos len : ℕ) (log b : List ℕ) (buf : Bytes) : Type 0 where
+  pub heard : Bool
+  pub header : HeaderPut
+  pub event : AsyncEvent
+  pub under : Bytes
+  pub list : ScanList
+  pub laid : buf ≡ laidHeader (reply.headerIn (reply.nextOf n header)) under
+  pub listed : sessionIn b .list ≡ listHeard heard event list
+  pub on : go e (drop pos rec) log len (callShown a (exchangeNext (a .job) (lensOf a) g (sessionIn b .st) heard (reply.nextOf n header)) event (world (sessionIn b .st) under list)) ≡ x
+
+-- or all is to be put back
+abbrev pub Stood : Args → Stage → World → End → List ℕ → IoctlTurned → List ℕ → List ℕ → Bytes → Type 0
+Stood a g e x rec t log b buf = unlessBack (Answered a g e x rec (t .now) (t .asked .pos) (t .asked .len) log b buf) (followed e log (t .asked .len) x (t .asked .back) ≡ x) (t .asked .back)
+
+-- it goes on with another operation
+abbrev pub onOf : IoctlTurned → Bool
+onOf t = pick (isBack (t .asked .back)) false (isAsk (t .now .kind))
+
+-- ---- a call
+
+-- what the call does next is left; before is laid and what was heard is in the list
+pub record Plans (a : Args) (e : World) (x : End) (rec : List ℕ) (f : Plan) (pos len : ℕ) (log b : List ℕ) (buf : Bytes) : Type 0 where
+  pub heard : Bool
+  pub before : Before
+  pub event : AsyncEvent
+  pub under : Bytes
+  pub list : ScanList
+  pub laid : buf ≡ laidBefore before under
+  pub listed : sessionIn b .list ≡ listHeard heard event list
+  pub on : go e (drop pos rec) log len (callShown a (planned f (a .job) (lensOf a) (sessionIn b .st) heard before) event (world (sessionIn b .st) under list)) ≡ x
+
 abbrev pub TurnsBy : Args → World → End → List ℕ → CallTurned → List ℕ → List ℕ → Bytes → Bool → Type 0
-TurnsBy a e x rec r log b buf true = go e (drop (r .pos) rec) log (r .end .len) (callTree a (nextOf (r .call)) (worldIn b buf)) ≡ x
+TurnsBy a e x rec r log b buf true = Plans a e x rec (r .plan) (r .pos) (r .end .len) log b buf
 TurnsBy a e x rec r log b buf false = Ends e x (r .end) log b buf
 
+-- the run goes on to x, or came to it
 abbrev pub Turns : Args → World → End → List ℕ → CallTurned → List ℕ → List ℕ → Bytes → Type 0
 Turns a e x rec r log b buf = TurnsBy a e x rec r log b buf (r .on)
-
--- the kinds that wait for an operation
-abbrev pub waits : CallKind → Bool
-waits CallKind.Exchange = true
-waits CallKind.Pause = true
-waits CallKind.Clock = true
-waits CallKind.Tick = true
-waits CallKind.Ended = false
-waits CallKind.Refused = false
-
--- a turn that goes on is at an operation
-abbrev pub Waits : CallTurned → Type 0
-Waits r = r .on ≡ true → waits (r .call .kind) ≡ true
-
--- u, b, c and v, d, g: what is kept, session and work buffer, before and after; x: what the run comes to
-pub record Went (a : Args) (rec log u v b d : List ℕ) (c g : Bytes) (r : CallTurned) (x : World → End) : Type 0 where
-  pub turns : (e : World) → Turns a e (x e) rec r log d g
-  pub held : isSession d ≡ true
-  pub kept : KeptAll u v b d c g
-
--- after the answer to the operation at p; f: a fault
-abbrev pub Goes : Job → Bytes → Bytes → CallNow → Asked → Bool → List ℕ → List ℕ → List ℕ → List ℕ → Bytes → Bytes → CallTurned → Type 0
-Goes j first second p a f u v b d c g r =
-    (q : CallPoint) → nextOf p ≡ CallNext.Ask q → (y : Ans) (b₀ : Bytes) → answerOf f (a .value) ≡ told y → (f ≡ true → a .value < 256) → InRange (callOp q) y → c ≡ landing (callOp q) y b₀
-    → (rec log : List ℕ) → Went (argsOf j first second) rec log u v b d c g r (λ e. go e (drop (a .pos) rec) log (a .len) (Kc (argsOf j first second) q y (worldIn b b₀)))

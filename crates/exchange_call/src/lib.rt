@@ -1,25 +1,42 @@
-// A call's exchanges over its recording, on a session's bytes.
+// A call's exchanges over its recording, on a session's bytes: a loop for the operations of an exchange, and one for the exchanges.
 pub mod asks;
 
-use crate::asks::call_ask;
+use crate::asks::ioctl_ask;
 use asking::Asked;
+use asking::Back;
+use asking::ask_clock;
+use asking::ask_tick;
+use asking::ask_wait;
 use control::Ending;
 use control::Job;
 use control::Lens;
 use control::Stage;
 use effects::args::lens;
 use effects::outcome::success_of;
-use exchanging::answer::call_answer;
-use exchanging::answer::call_fault;
-use exchanging::begin::begin;
+use exchanging::act::act;
+use exchanging::begin::stage_len;
 use exchanging::now::CallKind;
 use exchanging::now::CallNow;
+use exchanging::now::PauseKind;
+use exchanging::plan::Plan;
+use exchanging::plan::begins;
+use exchanging::plan::clock_plan;
+use exchanging::plan::exchange_plan;
+use exchanging::plan::fault_plan;
+use exchanging::plan::resume_of;
+use exchanging::plan::tick_plan;
+use replying::IoctlAt;
+use replying::IoctlNow;
+use replying::IoctlNowKind;
+use replying::ioctl_answer;
+use replying::ioctl_fault;
 use run_end::RunEnd;
 use run_end::done_end;
 use run_end::error_end;
 use run_end::success_end;
 use turning::back_end;
 use turning::is_back;
+use wlan::DriverError;
 ghost use mathlib.Core.Path.{_≡_};
 ghost use mathlib.Core.Bool.{true, false};
 ghost use mathlib.Core.List.{List, []};
@@ -29,36 +46,196 @@ ghost use Rattle.wlan.specs.declared.Outcome.{Outcome};
 ghost use Rattle.definition.specs.Bus.{Bytes};
 ghost use Rattle.definition.specs.Event.{eventOf};
 ghost use Rattle.definition.specs.Prog.{World};
+ghost use Rattle.definition.specs.Run.{End};
+ghost use Rattle.ioctl.specs.Ioctl.{ioctlOp};
 ghost use Rattle.control.specs.declared.CallNext as next;
-ghost use Rattle.control.specs.declared.CallPoint.{CallPoint};
+ghost use Rattle.control.specs.declared.CallPoint as point;
+ghost use Rattle.control.specs.declared.Stage as stage;
+ghost use Rattle.control.specs.Steps.{pauseNs};
 ghost use Rattle.control.specs.Meaning.{Args, lensOf, callTree, callShown, successOf};
 ghost use Rattle.effects.specs.Args.{argsOf};
 ghost use Rattle.control.specs.Begin.{exchangesStep};
 ghost use Rattle.session_bytes.specs.Session.{isSession, sessionIn};
 ghost use Rattle.going.specs.Onward.{go};
 ghost use Rattle.undo.specs.Undo.{Kept};
-ghost use Rattle.asking.specs.Asking.{Asks, Grew};
-ghost use Rattle.control.specs.Steps.{callOp};
+ghost use Rattle.asking.specs.Asking.{Asks, askedOf};
+ghost use Rattle.laying.specs.Laying.{LaidKept};
+ghost use Rattle.replying.specs.Replying.{pointOf};
 ghost use Rattle.exchanging.specs.Exchanging as at;
 ghost use Rattle.run_end.specs.RunEnd as ending;
 ghost use Rattle.turning.specs.Turning as turning;
 ghost use Rattle.exchange_call.specs.ExchangeCall as to;
 
-// A turn goes on where a call waits, or the call is over. end.len: how many words are in the log.
+// ---- an exchange
+
+// Its last step, and what its last operation was answered.
+pub struct IoctlTurned {
+    pub on: bool,
+    pub now: IoctlNow,
+    pub asked: Asked,
+}
+
+fn is_ask(k: IoctlNowKind) -> bool
+    ensures { λ r. ⌜ r ≡ at.isAsk k ⌝ }
+{
+    match k {
+        IoctlNowKind::Ask => true,
+        IoctlNowKind::Done => false,
+        IoctlNowKind::Refused => false,
+    }
+}
+
+fn ioctl_turned(on: bool, n: IoctlNow, a: Asked) -> IoctlTurned
+    ensures { λ r. ⌜ (r .on ≡ on) × (r .now ≡ n) × (r .asked ≡ a) ⌝ }
+{
+    IoctlTurned {
+        on: on,
+        now: n,
+        asked: a,
+    }
+}
+
+fn answered(n: IoctlNow, a: Asked) -> IoctlTurned
+    ensures { λ r. ⌜ (r .on ≡ at.isAsk (n .kind)) × (r .now ≡ n) × (r .asked ≡ a) ⌝ }
+{
+    let k = n.kind;
+    ioctl_turned(is_ask(k), n, a)
+}
+
+// Before its first operation.
+fn ioctl_from(p: IoctlAt, pos: usize, len: usize) -> IoctlTurned
+    ensures { λ r. ⌜ (r .on ≡ true) × (r .now .kind ≡ IoctlNowKind.Ask) × (r .now .at ≡ p) × (r .asked ≡ askedOf Back.No false 0 pos len) ⌝ }
+{
+    IoctlTurned {
+        on: true,
+        now: IoctlNow {
+            kind: IoctlNowKind::Ask,
+            at: p,
+            offset: 0,
+            count: 0,
+            error: DriverError::Io,
+        },
+        asked: Asked {
+            back: Back::No,
+            fault: false,
+            value: 0,
+            pos: pos,
+            len: len,
+        },
+    }
+}
+
+// What the operation at p was answered; n: how long the payload is.
+fn ioctl_asked(
+    n: u16,
+    p: IoctlAt,
+    a: Asked,
+    s: &mut [u8],
+    undo: &mut [u8],
+    buf: &mut [u8],
+) -> IoctlTurned
+    requires { ⌜ isSession (now s) ≡ true ⌝ }
+    requires { ⌜ Kept (now undo) ⌝ }
+    requires { ⌜ length (now buf) ≡ 2048 ⌝ }
+    ensures on { λ r. ⌜ ((x : Args) (g : stage.Stage) (rec log₀ log : List ℕ) (pos len : ℕ) (b : Bytes) → to.Fits x g n → Asks (ioctlOp (pointOf p)) rec log₀ log pos len b (now (buf .entry)) a → (e : World) → to.Stood x g e (to.askedAt x g e rec log₀ pos len p (now (s .entry)) b) rec r log (now (s .exit)) (now (buf .exit))) ⌝ }
+    ensures asks { λ r. ⌜ (r .on ≡ to.onOf r) × (r .asked ≡ a) ⌝ }
+    ensures held { λ _. ⌜ isSession (now (s .exit)) ≡ true ⌝ }
+    ensures kept { λ _. ⌜ turning.KeptAll (now (undo .entry)) (now (undo .exit)) (now (s .entry)) (now (s .exit)) (now (buf .entry)) (now (buf .exit)) ⌝ }
+{
+    if is_back(a) {
+        return ioctl_turned(false, ioctl_fault(0), a);
+    }
+    if a.fault {
+        return answered(ioctl_fault((a.value % 256) as u8), a);
+    }
+    answered(ioctl_answer(s, undo, buf, n, p, a.value), a)
+}
+
+// One operation, its answer, and the step that follows.
+fn ioctl_turn(
+    n: u16,
+    p: IoctlAt,
+    pos: usize,
+    len: usize,
+    s: &mut [u8],
+    undo: &mut [u8],
+    rec: &[u32],
+    log: &mut [u32],
+    buf: &mut [u8],
+) -> IoctlTurned
+    requires { ⌜ isSession (now s) ≡ true ⌝ }
+    requires { ⌜ Kept (now undo) ⌝ }
+    requires { ⌜ length (now buf) ≡ 2048 ⌝ }
+    ensures on { λ r. ⌜ ((x : Args) (g : stage.Stage) → to.Fits x g n → (e : World) → to.Stood x g e (to.askedAt x g e (now (rec .entry)) (now (log .entry)) pos len p (now (s .entry)) (now (buf .entry))) (now (rec .entry)) r (now (log .exit)) (now (s .exit)) (now (buf .exit))) ⌝ }
+    ensures asks { λ r. ⌜ r .on ≡ to.onOf r ⌝ }
+    ensures held { λ _. ⌜ isSession (now (s .exit)) ≡ true ⌝ }
+    ensures kept { λ _. ⌜ turning.KeptAll (now (undo .entry)) (now (undo .exit)) (now (s .entry)) (now (s .exit)) (now (buf .entry)) (now (buf .exit)) ⌝ }
+    ensures grew { λ r. ⌜ (turning.isBack (r .asked .back) ≡ false → (len < r .asked .len) × (r .asked .len ≤ length (now (log .entry)))) ⌝ }
+{
+    let a = ioctl_ask(p, pos, len, undo, rec, log, buf);
+    ioctl_asked(n, p, a, s, undo, buf)
+}
+
+// From the operation at p to the exchange's end.
+fn ioctl_run(
+    n: u16,
+    p: IoctlAt,
+    pos: usize,
+    len: usize,
+    s: &mut [u8],
+    undo: &mut [u8],
+    rec: &[u32],
+    log: &mut [u32],
+    buf: &mut [u8],
+) -> IoctlTurned
+    requires { ⌜ isSession (now s) ≡ true ⌝ }
+    requires { ⌜ Kept (now undo) ⌝ }
+    requires { ⌜ length (now buf) ≡ 2048 ⌝ }
+    requires { ⌜ len ≤ length (now log) ⌝ }
+    ensures on { λ r. ⌜ ((x : Args) (g : stage.Stage) → to.Fits x g n → (e : World) → to.Stood x g e (to.askedAt x g e (now (rec .entry)) (now (log .entry)) pos len p (now (s .entry)) (now (buf .entry))) (now (rec .entry)) r (now (log .exit)) (now (s .exit)) (now (buf .exit))) ⌝ }
+    ensures asks { λ r. ⌜ (r .on ≡ false) × (r .on ≡ to.onOf r) ⌝ }
+    ensures held { λ _. ⌜ isSession (now (s .exit)) ≡ true ⌝ }
+    ensures kept { λ _. ⌜ turning.KeptAll (now (undo .entry)) (now (undo .exit)) (now (s .entry)) (now (s .exit)) (now (buf .entry)) (now (buf .exit)) ⌝ }
+    ensures grew { λ r. ⌜ (turning.isBack (r .asked .back) ≡ false → (len < r .asked .len) × (r .asked .len ≤ length (now (log .entry)))) ⌝ }
+{
+    let mut t = ioctl_from(p, pos, len);
+    while t.on {
+        let now = t.now;
+        let at = now.at;
+        let a = t.asked;
+        t = ioctl_turn(n, at, a.pos, a.len, s, undo, rec, log, buf);
+    }
+    t
+}
+
+// ---- a call
+
+// It goes on with a plan, or is over. end.len: how many words are in the log.
 pub struct CallTurned {
     pub on: bool,
-    pub call: CallNow,
+    pub plan: Plan,
     pub pos: usize,
     pub end: RunEnd,
 }
 
-fn turned(on: bool, n: CallNow, pos: usize, end: RunEnd) -> CallTurned
-    ensures { λ r. ⌜ (r .on ≡ on) × (r .call ≡ n) × (r .pos ≡ pos) × (r .end ≡ end) ⌝ }
+fn onward(f: Plan, pos: usize, len: usize) -> CallTurned
+    ensures { λ r. ⌜ (r .on ≡ true) × (r .plan ≡ f) × (r .pos ≡ pos) × (r .end .len ≡ len) ⌝ }
 {
     CallTurned {
-        on: on,
-        call: n,
+        on: true,
+        plan: f,
         pos: pos,
+        end: done_end(len),
+    }
+}
+
+fn over(end: RunEnd) -> CallTurned
+    ensures { λ r. ⌜ (r .on ≡ false) × (r .end ≡ end) ⌝ }
+{
+    CallTurned {
+        on: false,
+        plan: begins(Stage::Single),
+        pos: 0,
         end: end,
     }
 }
@@ -70,110 +247,148 @@ fn ending_end(e: Ending, buf: &[u8], len: usize) -> RunEnd
     success_end(success_of(e, buf), len)
 }
 
-// From where a call stands.
-fn stands(n: CallNow, pos: usize, len: usize, buf: &[u8]) -> CallTurned
-    ensures on { λ r. ⌜ ((a : Args) (e : World) (rec log b : List ℕ) → to.Turns a e (go e (drop pos rec) log len (callTree a (at.nextOf n) (turning.worldIn b (now (buf .entry))))) rec r log b (now (buf .entry))) ⌝ }
-    ensures asks { λ r. ⌜ to.Waits r ⌝ }
-    ensures grew { λ r. ⌜ r .end .len ≡ len ⌝ }
+// After stage g's exchange.
+fn exchange_over(j: Job, g: Stage, t: IoctlTurned, undo: &mut [u8], buf: &mut [u8]) -> CallTurned
+    requires { ⌜ Kept (now undo) ⌝ }
+    requires { ⌜ length (now buf) ≡ 2048 ⌝ }
+    requires { ⌜ to.onOf t ≡ false ⌝ }
+    ensures on { λ r. ⌜ ((first second : Bytes) (e : World) (x : End) (rec log b : List ℕ) → to.Stood (argsOf j first second) g e x rec t log b (now (buf .entry)) → to.Turns (argsOf j first second) e x rec r log b (now (buf .exit))) ⌝ }
+    ensures kept { λ _. ⌜ LaidKept (now (undo .entry)) (now (undo .exit)) (now (buf .entry)) (now (buf .exit)) ⌝ }
+    ensures grew { λ r. ⌜ (r .on ≡ true → (turning.isBack (t .asked .back) ≡ false) × (r .end .len ≡ t .asked .len)) ⌝ }
+{
+    let a = t.asked;
+    let n = t.now;
+    if is_back(a) {
+        return over(back_end(a));
+    }
+    onward(exchange_plan(j, g, undo, buf, n), a.pos, a.len)
+}
+
+// Stage g's exchange, from the operation at p on.
+fn exchange_turn(
+    j: Job,
+    l: Lens,
+    g: Stage,
+    p: IoctlAt,
+    pos: usize,
+    len: usize,
+    s: &mut [u8],
+    undo: &mut [u8],
+    rec: &[u32],
+    log: &mut [u32],
+    buf: &mut [u8],
+) -> CallTurned
+    requires { ⌜ isSession (now s) ≡ true ⌝ }
+    requires { ⌜ Kept (now undo) ⌝ }
+    requires { ⌜ length (now buf) ≡ 2048 ⌝ }
+    requires { ⌜ len ≤ length (now log) ⌝ }
+    ensures on { λ r. ⌜ ((first second : Bytes) → length first + length second < 60000 → l ≡ lensOf (argsOf j first second) → (e : World) → to.Turns (argsOf j first second) e (to.askedAt (argsOf j first second) g e (now (rec .entry)) (now (log .entry)) pos len p (now (s .entry)) (now (buf .entry))) (now (rec .entry)) r (now (log .exit)) (now (s .exit)) (now (buf .exit))) ⌝ }
+    ensures held { λ _. ⌜ isSession (now (s .exit)) ≡ true ⌝ }
+    ensures kept { λ _. ⌜ turning.KeptAll (now (undo .entry)) (now (undo .exit)) (now (s .entry)) (now (s .exit)) (now (buf .entry)) (now (buf .exit)) ⌝ }
+    ensures grew { λ r. ⌜ (r .on ≡ true → (len < r .end .len) × (r .end .len ≤ length (now (log .entry)))) ⌝ }
+{
+    let t = ioctl_run(stage_len(j, g, l), p, pos, len, s, undo, rec, log, buf);
+    exchange_over(j, g, t, undo, buf)
+}
+
+fn pause_ns(p: PauseKind, ns: u32) -> u32
+    ensures { λ r. ⌜ r ≡ pauseNs (at.pauseBy p ns) ⌝ }
+{
+    match p {
+        PauseKind::AfterCountry => 50_000_000,
+        PauseKind::Settle => ns,
+        PauseKind::AfterEventMessages => 50_000_000,
+        PauseKind::AfterUp => 50_000_000,
+        PauseKind::BeforeKey => 2_000_000,
+        PauseKind::BeforeSae => 2_000_000,
+    }
+}
+
+// A wait.
+fn pause_turn(p: PauseKind, ns: u32, pos: usize, len: usize, log: &mut [u32]) -> CallTurned
+    ensures on { λ r. ⌜ ((a : Args) (e : World) (rec b : List ℕ) (buf : Bytes) → length (a .first) + length (a .second) < 60000 → to.Turns a e (go e (drop pos rec) (now (log .entry)) len (callTree a (next.CallNext.Ask (point.CallPoint.Pause (at.pauseBy p ns))) (turning.worldIn b buf))) rec r (now (log .exit)) b buf) ⌝ }
+    ensures grew { λ r. ⌜ (r .on ≡ true → (len < r .end .len) × (r .end .len ≤ length (now (log .entry)))) ⌝ }
+{
+    let a = ask_wait(pause_ns(p, ns), pos, len, log);
+    if is_back(a) {
+        return over(back_end(a));
+    }
+    onward(resume_of(p), a.pos, a.len)
+}
+
+// init's clock.
+fn clock_turn(pos: usize, len: usize, rec: &[u32], log: &mut [u32]) -> CallTurned
+    ensures on { λ r. ⌜ ((a : Args) (e : World) (b : List ℕ) (buf : Bytes) → length (a .first) + length (a .second) < 60000 → to.Turns a e (go e (drop pos (now (rec .entry))) (now (log .entry)) len (callTree a (next.CallNext.Ask point.CallPoint.Clock) (turning.worldIn b buf))) (now (rec .entry)) r (now (log .exit)) b buf) ⌝ }
+    ensures grew { λ r. ⌜ (r .on ≡ true → (len < r .end .len) × (r .end .len ≤ length (now (log .entry)))) ⌝ }
+{
+    let a = ask_clock(pos, len, rec, log);
+    if is_back(a) {
+        return over(back_end(a));
+    }
+    if a.fault {
+        return onward(fault_plan((a.value % 256) as u8), a.pos, a.len);
+    }
+    onward(clock_plan(a.value), a.pos, a.len)
+}
+
+// leave's tick.
+fn tick_turn(pos: usize, len: usize, rec: &[u32], log: &mut [u32]) -> CallTurned
+    ensures on { λ r. ⌜ ((a : Args) (e : World) (b : List ℕ) (buf : Bytes) → length (a .first) + length (a .second) < 60000 → to.Turns a e (go e (drop pos (now (rec .entry))) (now (log .entry)) len (callTree a (next.CallNext.Ask point.CallPoint.Tick) (turning.worldIn b buf))) (now (rec .entry)) r (now (log .exit)) b buf) ⌝ }
+    ensures grew { λ r. ⌜ (r .on ≡ true → (len < r .end .len) × (r .end .len ≤ length (now (log .entry)))) ⌝ }
+{
+    let a = ask_tick(pos, len, rec, log);
+    if is_back(a) {
+        return over(back_end(a));
+    }
+    if a.fault {
+        return onward(fault_plan((a.value % 256) as u8), a.pos, a.len);
+    }
+    onward(tick_plan(a.value), a.pos, a.len)
+}
+
+// From where a call stands to its next plan.
+fn stand(
+    j: Job,
+    l: Lens,
+    n: CallNow,
+    pos: usize,
+    len: usize,
+    s: &mut [u8],
+    undo: &mut [u8],
+    rec: &[u32],
+    log: &mut [u32],
+    buf: &mut [u8],
+) -> CallTurned
+    requires { ⌜ isSession (now s) ≡ true ⌝ }
+    requires { ⌜ Kept (now undo) ⌝ }
+    requires { ⌜ length (now buf) ≡ 2048 ⌝ }
+    requires { ⌜ len ≤ length (now log) ⌝ }
+    ensures on { λ r. ⌜ ((first second : Bytes) → length first + length second < 60000 → l ≡ lensOf (argsOf j first second) → (e : World) → to.Turns (argsOf j first second) e (go e (drop pos (now (rec .entry))) (now (log .entry)) len (callTree (argsOf j first second) (at.nextOf n) (turning.worldIn (now (s .entry)) (now (buf .entry))))) (now (rec .entry)) r (now (log .exit)) (now (s .exit)) (now (buf .exit))) ⌝ }
+    ensures held { λ _. ⌜ isSession (now (s .exit)) ≡ true ⌝ }
+    ensures kept { λ _. ⌜ turning.KeptAll (now (undo .entry)) (now (undo .exit)) (now (s .entry)) (now (s .exit)) (now (buf .entry)) (now (buf .exit)) ⌝ }
+    ensures grew { λ r. ⌜ (r .on ≡ true → (len < r .end .len) × (r .end .len ≤ length (now (log .entry)))) ⌝ }
 {
     let k = n.kind;
+    let g = n.stage;
+    let p = n.at;
+    let pause = n.pause;
     let e = n.ending;
     let x = n.error;
     match k {
-        CallKind::Exchange => turned(true, n, pos, done_end(len)),
-        CallKind::Pause => turned(true, n, pos, done_end(len)),
-        CallKind::Clock => turned(true, n, pos, done_end(len)),
-        CallKind::Tick => turned(true, n, pos, done_end(len)),
-        CallKind::Ended => turned(false, n, pos, ending_end(e, buf, len)),
-        CallKind::Refused => turned(false, n, pos, error_end(x, len)),
+        CallKind::Exchange => exchange_turn(j, l, g, p, pos, len, s, undo, rec, log, buf),
+        CallKind::Pause => pause_turn(pause, n.ns, pos, len, log),
+        CallKind::Clock => clock_turn(pos, len, rec, log),
+        CallKind::Tick => tick_turn(pos, len, rec, log),
+        CallKind::Ended => over(ending_end(e, buf, len)),
+        CallKind::Refused => over(error_end(x, len)),
     }
 }
 
-// The operation met a fault.
-fn faulted(
-    j: Job,
-    l: Lens,
-    p: CallNow,
-    a: Asked,
-    s: &mut [u8],
-    undo: &mut [u8],
-    buf: &mut [u8],
-    first: &[u8],
-    second: &[u8],
-) -> CallTurned
-    requires { ⌜ isSession (now s) ≡ true ⌝ }
-    requires { ⌜ Kept (now undo) ⌝ }
-    requires { ⌜ length (now buf) ≡ 2048 ⌝ }
-    requires { ⌜ length (now first) + length (now second) < 60000 ⌝ }
-    requires { ⌜ l ≡ lensOf (argsOf j (now first) (now second)) ⌝ }
-    ensures on { λ r. ⌜ to.Goes j (now (first .entry)) (now (second .entry)) p a true (now (undo .entry)) (now (undo .exit)) (now (s .entry)) (now (s .exit)) (now (buf .entry)) (now (buf .exit)) r ⌝ }
-    ensures asks { λ r. ⌜ to.Waits r ⌝ }
-    ensures grew { λ r. ⌜ r .end .len ≡ a .len ⌝ }
-{
-    let n = call_fault(j, l, s, undo, buf, first, second, p, (a.value % 256) as u8);
-    stands(n, a.pos, a.len, buf)
-}
-
-// The operation was answered with a value.
-fn valued(
-    j: Job,
-    l: Lens,
-    p: CallNow,
-    a: Asked,
-    s: &mut [u8],
-    undo: &mut [u8],
-    buf: &mut [u8],
-    first: &[u8],
-    second: &[u8],
-) -> CallTurned
-    requires { ⌜ isSession (now s) ≡ true ⌝ }
-    requires { ⌜ Kept (now undo) ⌝ }
-    requires { ⌜ length (now buf) ≡ 2048 ⌝ }
-    requires { ⌜ length (now first) + length (now second) < 60000 ⌝ }
-    requires { ⌜ l ≡ lensOf (argsOf j (now first) (now second)) ⌝ }
-    ensures on { λ r. ⌜ to.Goes j (now (first .entry)) (now (second .entry)) p a false (now (undo .entry)) (now (undo .exit)) (now (s .entry)) (now (s .exit)) (now (buf .entry)) (now (buf .exit)) r ⌝ }
-    ensures asks { λ r. ⌜ to.Waits r ⌝ }
-    ensures grew { λ r. ⌜ r .end .len ≡ a .len ⌝ }
-{
-    let n = call_answer(j, l, s, undo, buf, first, second, p, a.value);
-    stands(n, a.pos, a.len, buf)
-}
-
-// What the operation at p was answered.
-fn call_asked(
-    j: Job,
-    l: Lens,
-    p: CallNow,
-    a: Asked,
-    s: &mut [u8],
-    undo: &mut [u8],
-    buf: &mut [u8],
-    first: &[u8],
-    second: &[u8],
-) -> CallTurned
-    requires { ⌜ isSession (now s) ≡ true ⌝ }
-    requires { ⌜ Kept (now undo) ⌝ }
-    requires { ⌜ length (now buf) ≡ 2048 ⌝ }
-    requires { ⌜ length (now first) + length (now second) < 60000 ⌝ }
-    requires { ⌜ l ≡ lensOf (argsOf j (now first) (now second)) ⌝ }
-    ensures on { λ r. ⌜ ((q : CallPoint) (rec log₀ log : List ℕ) (pos len : ℕ) (b : Bytes) → at.nextOf p ≡ next.CallNext.Ask q → Asks (callOp q) rec log₀ log pos len b (now (buf .entry)) a → to.Went (argsOf j (now (first .entry)) (now (second .entry))) rec log (now (undo .entry)) (now (undo .exit)) (now (s .entry)) (now (s .exit)) (now (buf .entry)) (now (buf .exit)) r (λ e. go e (drop pos rec) log₀ len (callTree (argsOf j (now (first .entry)) (now (second .entry))) (next.CallNext.Ask q) (turning.worldIn (now (s .entry)) b)))) ⌝ }
-    ensures asks { λ r. ⌜ to.Waits r ⌝ }
-    ensures grew { λ r. ⌜ ((room len : ℕ) → Grew room len a → r .on ≡ true → (len < r .end .len) × (r .end .len ≤ room)) ⌝ }
-{
-    if is_back(a) {
-        return turned(false, p, 0, back_end(a));
-    }
-    if a.fault {
-        return faulted(j, l, p, a, s, undo, buf, first, second);
-    }
-    valued(j, l, p, a, s, undo, buf, first, second)
-}
-
-// One operation, its answer, and what follows.
+// What the call does next, to its next plan.
 fn call_turn(
     j: Job,
     l: Lens,
-    p: CallNow,
+    f: Plan,
     pos: usize,
     len: usize,
     s: &mut [u8],
@@ -189,22 +404,21 @@ fn call_turn(
     requires { ⌜ length (now buf) ≡ 2048 ⌝ }
     requires { ⌜ length (now first) + length (now second) < 60000 ⌝ }
     requires { ⌜ l ≡ lensOf (argsOf j (now first) (now second)) ⌝ }
-    requires { ⌜ to.waits (p .kind) ≡ true ⌝ }
-    ensures on { λ r. ⌜ ((e : World) → to.Turns (argsOf j (now (first .entry)) (now (second .entry))) e (go e (drop pos (now (rec .entry))) (now (log .entry)) len (callTree (argsOf j (now (first .entry)) (now (second .entry))) (at.nextOf p) (turning.worldIn (now (s .entry)) (now (buf .entry))))) (now (rec .entry)) r (now (log .exit)) (now (s .exit)) (now (buf .exit))) ⌝ }
-    ensures asks { λ r. ⌜ to.Waits r ⌝ }
+    requires { ⌜ len ≤ length (now log) ⌝ }
+    ensures on { λ r. ⌜ ((e : World) (x : End) → to.Plans (argsOf j (now (first .entry)) (now (second .entry))) e x (now (rec .entry)) f pos len (now (log .entry)) (now (s .entry)) (now (buf .entry)) → to.Turns (argsOf j (now (first .entry)) (now (second .entry))) e x (now (rec .entry)) r (now (log .exit)) (now (s .exit)) (now (buf .exit))) ⌝ }
     ensures held { λ _. ⌜ isSession (now (s .exit)) ≡ true ⌝ }
     ensures kept { λ _. ⌜ turning.KeptAll (now (undo .entry)) (now (undo .exit)) (now (s .entry)) (now (s .exit)) (now (buf .entry)) (now (buf .exit)) ⌝ }
     ensures grew { λ r. ⌜ (r .on ≡ true → (len < r .end .len) × (r .end .len ≤ length (now (log .entry)))) ⌝ }
 {
-    let a = call_ask(p, pos, len, undo, rec, log, buf);
-    call_asked(j, l, p, a, s, undo, buf, first, second)
+    let n = act(j, l, f, s, undo, buf, first, second);
+    stand(j, l, n, pos, len, s, undo, rec, log, buf)
 }
 
-// From a call's first step, whose bytes are laid, to its end.
-pub fn call_run(
+// From a call's first plan to its end.
+fn call_run(
     j: Job,
     l: Lens,
-    n: CallNow,
+    f: Plan,
     s: &mut [u8],
     undo: &mut [u8],
     rec: &[u32],
@@ -218,18 +432,18 @@ pub fn call_run(
     requires { ⌜ length (now buf) ≡ 2048 ⌝ }
     requires { ⌜ length (now first) + length (now second) < 60000 ⌝ }
     requires { ⌜ l ≡ lensOf (argsOf j (now first) (now second)) ⌝ }
-    ensures on { λ r. ⌜ ((e : World) → turning.Ends e (go e (drop 0 (now (rec .entry))) (now (log .entry)) 0 (callTree (argsOf j (now (first .entry)) (now (second .entry))) (at.nextOf n) (turning.worldIn (now (s .entry)) (now (buf .entry))))) r (now (log .exit)) (now (s .exit)) (now (buf .exit))) ⌝ }
+    ensures on { λ r. ⌜ ((e : World) (x : End) → to.Plans (argsOf j (now (first .entry)) (now (second .entry))) e x (now (rec .entry)) f 0 0 (now (log .entry)) (now (s .entry)) (now (buf .entry)) → turning.Ends e x r (now (log .exit)) (now (s .exit)) (now (buf .exit))) ⌝ }
     ensures held { λ _. ⌜ isSession (now (s .exit)) ≡ true ⌝ }
     ensures kept { λ _. ⌜ turning.KeptAll (now (undo .entry)) (now (undo .exit)) (now (s .entry)) (now (s .exit)) (now (buf .entry)) (now (buf .exit)) ⌝ }
 {
-    let mut t = stands(n, 0, 0, buf);
+    let mut t = onward(f, 0, 0);
     while t.on {
-        let p = t.call;
+        let plan = t.plan;
         let end = t.end;
         t = call_turn(
             j,
             l,
-            p,
+            plan,
             t.pos,
             end.len,
             s,
@@ -266,6 +480,5 @@ pub fn exchange_run(
     ensures kept { λ _. ⌜ turning.KeptAll (now (undo .entry)) (now (undo .exit)) (now (s .entry)) (now (s .exit)) (now (buf .entry)) (now (buf .exit)) ⌝ }
 {
     let l = lens(first, second);
-    let n = begin(j, l, g, s, undo, buf, first, second);
-    call_run(j, l, n, s, undo, rec, log, buf, first, second)
+    call_run(j, l, begins(g), s, undo, rec, log, buf, first, second)
 }

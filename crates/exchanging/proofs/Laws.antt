@@ -4,37 +4,28 @@ use Prim.Native.Nat.{ℕ}
 use mathlib.Core.Path.{_≡_, refl, sym, ap, _∙_}
 use mathlib.Core.Bool.{Bool, true, false, true≢false}
 use mathlib.Core.List.{List}
-use Rattle.wlan.specs.declared.AsyncEvent.{AsyncEvent}
-use Rattle.wlan.specs.declared.BusAnswer.{BusAnswer}
-use Rattle.wlan.specs.declared.DriverError.{DriverError}
+use Rattle.slices.specs.Pick.{pick}
 use Rattle.wlan.specs.declared.ScanMarks.{ScanMarks}
 use Rattle.wlan.specs.declared.State.{State}
 use Rattle.wlan.specs.State.{withScan}
 use Rattle.definition.specs.Bus.{Bytes}
+use Rattle.definition.specs.Join.{isDevError}
 use Rattle.definition.specs.Scan.{cleared}
-use Rattle.handling.specs.Handle.{listHeard}
-use Rattle.device.specs.declared.Arrival.{Arrival}
 use Rattle.send.specs.declared.HeaderPut.{HeaderPut}
 use Rattle.send.specs.Meaning.{laidHeader}
-use Rattle.ioctl.specs.declared.IoctlNext.{IoctlNext}
-use Rattle.ioctl.specs.declared.IoctlPoint.{IoctlPoint}
 use Rattle.ioctl.specs.declared.IoctlStep.{IoctlStep}
-use Rattle.ioctl.specs.Ioctl.{ioctlOp}
 use Rattle.control.specs.declared.Before.{Before}
 use Rattle.control.specs.declared.CallNext.{CallNext}
-use Rattle.control.specs.declared.CallPoint.{CallPoint}
 use Rattle.control.specs.declared.CallStep.{CallStep}
 use Rattle.control.specs.declared.Job.{Job}
 use Rattle.control.specs.declared.Lay.{Lay}
 use Rattle.control.specs.declared.Lens.{Lens}
 use Rattle.control.specs.declared.RequestPut.{RequestPut}
 use Rattle.control.specs.declared.Stage.{Stage}
-use Rattle.control.specs.Stages.{requestAt, requestLen}
-use Rattle.control.specs.Steps.{callOp, lays, layBefore, step}
-use Rattle.control.specs.Begin.{callAnswer}
+use Rattle.control.specs.Stages.{isTried}
+use Rattle.control.specs.Steps.{lays, layBefore, step}
 use Rattle.control.specs.Exchange as to
-use Rattle.control.specs.Meaning.{Args, laidBefore, laidRequest, laidAll, listAt}
-use Rattle.effects.specs.Answer.{isWait}
+use Rattle.control.specs.Meaning.{Args, laidBefore, laidRequest, laidAll}
 use Rattle.session_bytes.specs.declared.session.Session.{Session}
 use Rattle.session_bytes.specs.Session.{isSession, sessionIn, withState}
 use Rattle.session_bytes.proofs.Laws.{session-length}
@@ -47,9 +38,8 @@ use Rattle.laying.specs.Laying.{LaidKept}
 use Rattle.replying.specs.declared.IoctlNow.{IoctlNow}
 use Rattle.replying.specs.declared.IoctlNowKind.{IoctlNowKind}
 use Rattle.replying.specs.Replying as reply
-use Rattle.replying.proofs.Laws as replying
 use Rattle.exchanging.specs.declared.now.CallNow.{CallNow}
-use Rattle.exchanging.specs.Exchanging.{nextOf, Sets, Clears, leftBy, Acts, Calls}
+use Rattle.exchanging.specs.Exchanging.{nextOf, Sets, Clears, leftBy, Acts, isAsk, goesOn, isIgnored, stopStep, beforeIn}
 
 -- the state alone changed, so what is kept gives the same
 front-kept : (u b : List ℕ) {d : List ℕ} (t : State) → Kept u → isSession b ≡ true → Holds d (withState b t) → backSession u d ≡ backSession u b
@@ -169,78 +159,28 @@ begun {a} {u} {v} {b} {m} {d} {c₀} {c} {f} {n} {r} x g h before put e k q =
       buf = k .buf;
     }
 
--- ---- after a later one
+-- ---- after an exchange
 
-pub exchanged : {a : Args} {u v w b m d : List ℕ} {c k f : Bytes} {n : IoctlNow} {r : CallNow} (j : Job) (l : Lens) (g : Stage) (e : AsyncEvent) (x : IoctlStep) → reply.Replies u v b m c k n e x
-    → ((h : Bool) (y : HeaderPut) (c₀ : Bytes) → k ≡ laidHeader (reply.headerIn (reply.nextOf n y)) c₀ → Acts a v w m d c₀ k f r h (to.exchangeNext j l g (sessionIn m .st) h (reply.nextOf n y)))
-    → Calls a u w b d c f r e (to.exchangeNext j l g (x .st) (x .heard) (x .next))
-unfolding listAt
-exchanged {a} {u} {v} {w} {b} {m} {d} {c} {k} {f} {n} {r} j l g e x i q =
-    let es : sessionIn m .st ≡ x .st = ap (λ (s : Session). s .st) (i .held .back) in
-    let el : sessionIn m .list ≡ listHeard (x .heard) e (sessionIn b .list) = ap (λ (s : Session). s .list) (i .held .back) in
-    let p : Acts a v w m d c k f r (x .heard) (to.exchangeNext j l g (x .st) (x .heard) (x .next)) = rw (i .next, es) at (q (x .heard) (reply.headerIn (x .next)) c (rw (i .next) (i .laid))) in
-    record {
-      next = p .next;
-      laid = p .laid;
-      held = rw (p .heard, ← el) (p .held);
-      kept = p .kept;
-      session = p .session ∙ i .session;
-      buf = p .buf ∙ i .buf;
-    }
+by-next : (j : Job) (l : Lens) (g : Stage) (s : State) (h : Bool) (x : HeaderPut) (n : IoctlNow) (k : IoctlNowKind) → isAsk k ≡ false
+    → (goesOn k g (n .error) ≡ true → to.exchangeNext j l g s h (reply.nextBy k n x) ≡ to.afterStep j l g s h (beforeIn (reply.nextBy k n x)))
+    × (goesOn k g (n .error) ≡ false → to.exchangeNext j l g s h (reply.nextBy k n x) ≡ stopStep g (n .error) s h (beforeIn (reply.nextBy k n x)))
+unfolding goesOn isIgnored stopStep beforeIn reply.nextBy to.exchangeNext to.failedStep
+by-next j l g s h x n IoctlNowKind.Ask i = absurd (true≢false i)
+by-next j l g s h x n IoctlNowKind.Done i = (λ o. refl, λ o. absurd (true≢false o))
+by-next j l g s h x n IoctlNowKind.Refused i = by (isDevError (n .error)) (isTried g) _ _ _
+  where
+    by : (d t : Bool) (p q r : CallStep) → (pick d t false ≡ true → pick d (pick t p q) r ≡ p) × (pick d t false ≡ false → pick d (pick t p q) r ≡ pick d q r)
+    by true true p q r = (λ o. refl, λ o. absurd (true≢false o))
+    by true false p q r = (λ o. absurd (true≢false (sym o)), λ o. refl)
+    by false t p q r = (λ o. absurd (true≢false (sym o)), λ o. refl)
 
--- one that asks goes on in the same exchange; r: where that is
-pub asked-call : {a : Args} {u v b d : List ℕ} {c f : Bytes} {n : IoctlNow} (j : Job) (l : Lens) (g : Stage) (e : AsyncEvent) (x : IoctlStep) (r : CallNow) → reply.Replies u v b d c f n e x → n .kind ≡ IoctlNowKind.Ask
-    → nextOf r ≡ CallNext.Ask (CallPoint.Exchange g (reply.pointOf (n .at))) → Calls a u v b d c f r e (to.exchangeNext j l g (x .st) (x .heard) (x .next))
-unfolding to.exchangeNext reply.nextBy laidAll laidRequest laidBefore listAt
-asked-call {a} {u} {v} {b} {d} {c} {f} {n} j l g e x r i k w =
-    let h = reply.headerIn (x .next) in
-    let z : x .next ≡ IoctlNext.Ask h (reply.pointOf (n .at)) = sym (rw k at (i .next)) in
-    rw z (record { next = w; laid = i .laid; held = i .held; kept = i .kept; session = i .session; buf = i .buf })
+pub next-on : (j : Job) (l : Lens) (g : Stage) (s : State) (h : Bool) (x : HeaderPut) (n : IoctlNow) → isAsk (n .kind) ≡ false → goesOn (n .kind) g (n .error) ≡ true
+    → to.exchangeNext j l g s h (reply.nextOf n x) ≡ to.afterStep j l g s h (beforeIn (reply.nextOf n x))
+next-on j l g s h x n i o = by-next j l g s h x n (n .kind) i .0 o
 
--- the next operation; its header is laid already
-pub asked-act : {a : Args} {u b : List ℕ} {c₀ c : Bytes} {r : CallNow} {h : Bool} {n : CallNext} (x : HeaderPut) → Kept u → isSession b ≡ true → nextOf r ≡ n → c ≡ laidHeader x c₀
-    → Acts a u u b b c₀ c c r h (step (sessionIn b .st) h (lays Before.None RequestPut.None x) n)
-unfolding laidAll laidRequest laidBefore
-asked-act x k hb n e = record { next = n; laid = e; held = record { known = hb; back = refl }; heard = refl; kept = k; session = refl; buf = refl }
+pub next-off : (j : Job) (l : Lens) (g : Stage) (s : State) (h : Bool) (x : HeaderPut) (n : IoctlNow) → isAsk (n .kind) ≡ false → goesOn (n .kind) g (n .error) ≡ false
+    → to.exchangeNext j l g s h (reply.nextOf n x) ≡ stopStep g (n .error) s h (beforeIn (reply.nextOf n x))
+next-off j l g s h x n i o = by-next j l g s h x n (n .kind) i .1 o
 
-pub replied-act : {a : Args} {u v b d : List ℕ} {c₀ c f : Bytes} {r : CallNow} {h : Bool} {s : CallStep} → c ≡ c₀ → Acts a u v b d c c f r h s → Acts a u v b d c₀ c f r h s
-replied-act {a} {u} {v} {b} {d} {c₀} {c} {f} {r} {h} {s} e q =
-    record { next = q .next; laid = q .laid ∙ ap (λ (x : Bytes). laidAll a (s .lay) x) e; held = q .held; heard = q .heard; kept = q .kept; session = q .session; buf = q .buf }
-
--- nothing was heard
-pub unheard : {a : Args} {u v b d : List ℕ} {c f : Bytes} {r : CallNow} {s : CallStep} (e : AsyncEvent) → Acts a u v b d c c f r false s → Calls a u v b d c f r e s
-unfolding listAt listHeard
-unheard e p = record { next = p .next; laid = p .laid; held = rw (p .heard) (p .held); kept = p .kept; session = p .session; buf = p .buf }
-
--- ---- the point that is asked
-
-abbrev pointIn : CallNext → CallPoint
-pointIn (CallNext.Ask p) = p
-pointIn (CallNext.Ended e) = CallPoint.Clock
-pointIn (CallNext.Refused e) = CallPoint.Clock
-
-abbrev isAsk : CallNext → Bool
-isAsk (CallNext.Ask p) = true
-isAsk (CallNext.Ended e) = false
-isAsk (CallNext.Refused e) = false
-
-pub asked : {p q : CallPoint} → CallNext.Ask p ≡ CallNext.Ask q → q ≡ p
-asked e = sym (ap pointIn e)
-
-pub not-asked : {n : CallNext} {q : CallPoint} → isAsk n ≡ false → n ≡ CallNext.Ask q → ⊥
-not-asked i e = true≢false (sym (ap isAsk e) ∙ i)
-
--- ---- a fault
-
-pub faulted : (j : Job) (l : Lens) (s : State) (g : Stage) (p : IoctlPoint) (place : ℕ) (a : Arrival) → isWait (ioctlOp p) ≡ false
-    → to.exchangeAnswer j l s g p (BusAnswer.Fault place) a ≡ to.failedStep j l g s false HeaderPut.None (DriverError.Fault place)
-unfolding to.exchangeAnswer to.exchangeNext
-faulted j l s g p place a h = rw (replying.faulted s (requestLen (requestAt j g) l) p place a h)
-
-pub fault-act : {a : Args} {u v b d : List ℕ} {c f : Bytes} {r : CallNow} {g : Stage} {p : IoctlPoint} {q : CallPoint} (j : Job) (l : Lens) (s : State) (place : ℕ) (x : Arrival) (e : AsyncEvent) → q ≡ CallPoint.Exchange g p → isWait (callOp q) ≡ false
-    → ((c₀ : Bytes) → c ≡ laidHeader HeaderPut.None c₀ → Acts a u v b d c₀ c f r false (to.failedStep j l g s false HeaderPut.None (DriverError.Fault place)))
-    → Calls a u v b d c f r e (callAnswer j l s q (BusAnswer.Fault place) x)
-unfolding callOp callAnswer laidHeader
-fault-act {a} {u} {v} {b} {d} {c} {f} {r} {g} {p} {q} j l s place x e i w k =
-    let z : isWait (ioctlOp p) ≡ false = rw i at w in
-    rw (i, faulted j l s g p place x z) (unheard e (k c refl))
+pub same-kept : {u : List ℕ} {c : Bytes} → Kept u → LaidKept u u c c
+same-kept k = record { kept = k; session = λ s. refl; buf = refl }

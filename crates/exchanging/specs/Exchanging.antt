@@ -2,19 +2,21 @@
 -- kept (u and v). The code's flat values in the mirror's terms.
 use Prim.Native.Nat.{ℕ}
 use mathlib.Core.Path.{_≡_}
-use mathlib.Core.Bool.{Bool, false}
+use mathlib.Core.Bool.{Bool, true, false}
 use mathlib.Core.List.{List}
 use Rattle.slices.specs.Pick.{pick}
-use Rattle.wlan.specs.declared.AsyncEvent.{AsyncEvent}
 use Rattle.wlan.specs.declared.DriverError.{DriverError}
 use Rattle.wlan.specs.declared.State.{State}
 use Rattle.wlan.specs.declared.WifiAuth.{WifiAuth}
 use Rattle.wlan.specs.declared.WifiState.{WifiState}
 use Rattle.wlan.specs.State.{withLink, setLinkState, setAuth}
 use Rattle.definition.specs.Bus.{Bytes}
+use Rattle.definition.specs.Join.{isDevError}
 use Rattle.definition.specs.Scan.{cleared}
 use Rattle.requests.specs.declared.Request.{Request}
 use Rattle.send.specs.declared.HeaderPut.{HeaderPut}
+use Rattle.ioctl.specs.declared.IoctlNext.{IoctlNext}
+use Rattle.ioctl.specs.Ioctl.{startStep}
 use Rattle.control.specs.declared.Before.{Before}
 use Rattle.control.specs.declared.CallNext.{CallNext}
 use Rattle.control.specs.declared.CallPoint.{CallPoint}
@@ -27,20 +29,21 @@ use Rattle.control.specs.declared.PausePoint.{PausePoint}
 use Rattle.control.specs.declared.RequestPut.{RequestPut}
 use Rattle.control.specs.declared.Stage.{Stage}
 use Rattle.control.specs.Steps.{lays, step, asks, ends, refuses, linkedState}
+use Rattle.control.specs.Stages.{requestAt, requestLen, isTried, isLast}
 use Rattle.control.specs.Exchange as to
-use Rattle.control.specs.Meaning.{Args, laidAll, listAt}
+use Rattle.control.specs.Meaning.{Args, laidAll}
 use Rattle.session_bytes.specs.declared.session.Session.{Session}
 use Rattle.session_bytes.specs.Session.{sessionIn, withState}
 use Rattle.places.specs.Places.{Holds}
 use Rattle.undo.specs.Undo.{Kept, backSession, backBuf}
+use Rattle.replying.specs.declared.IoctlNowKind.{IoctlNowKind}
 use Rattle.replying.specs.Replying as reply
 use Rattle.exchanging.specs.declared.now.CallKind.{CallKind}
 use Rattle.exchanging.specs.declared.now.CallNow.{CallNow}
 use Rattle.exchanging.specs.declared.now.PauseKind.{PauseKind}
+use Rattle.exchanging.specs.declared.plan.BeginKind.{BeginKind}
 use Rattle.exchanging.specs.declared.plan.Plan.{Plan}
 use Rattle.exchanging.specs.declared.plan.PlanKind.{PlanKind}
-use Rattle.exchanging.specs.declared.plan.Resume.{Resume}
-use Rattle.exchanging.specs.declared.plan.ResumeKind.{ResumeKind}
 
 -- ---- the flat values
 
@@ -63,10 +66,10 @@ nextBy CallKind.Refused r = CallNext.Refused (r .error)
 abbrev pub nextOf : CallNow → CallNext
 nextOf r = nextBy (r .kind) r
 
--- ---- what follows an exchange that is done, and a wait
+-- ---- what a call does next
 
-abbrev pub pausing : State → Bool → Before → PauseKind → CallStep
-pausing s h before p = asks s h before (CallPoint.Pause (pauseBy p 0))
+abbrev pub pausing : State → Bool → Before → PauseKind → ℕ → CallStep
+pausing s h before p ns = asks s h before (CallPoint.Pause (pauseBy p ns))
 
 abbrev pub keyLaid : State → Bool → Before → CallStep
 keyLaid s h before = step s h (lays before (RequestPut.Payload Request.Key) HeaderPut.None) (CallNext.Ask (CallPoint.Pause PausePoint.BeforeKey))
@@ -75,29 +78,64 @@ keyLaid s h before = step s h (lays before (RequestPut.Payload Request.Key) Head
 abbrev pub connectingBy : WifiAuth → State → State
 connectingBy a s = withLink s (setLinkState (setAuth (s .link) a) WifiState.Connecting)
 
+unfoldable pub stateBy : BeginKind → WifiAuth → State → State
+stateBy BeginKind.Whole a s = s
+stateBy BeginKind.Numbered a s = s
+stateBy BeginKind.Joined a s = connectingBy a s
+
+unfoldable pub putBy : BeginKind → Request → ℕ → RequestPut
+putBy BeginKind.Whole r id = RequestPut.Whole r id
+putBy BeginKind.Numbered r id = RequestPut.Numbered r id
+putBy BeginKind.Joined r id = RequestPut.Whole r id
+
+abbrev pub begunBy : BeginKind → Job → Lens → Stage → State → Bool → Before → CallStep
+begunBy b j l g s h before = to.begun (startStep s (requestLen (requestAt j g) l)) g h before (putBy b (requestAt j g) (to.newId s))
+
+abbrev pub beginBy : BeginKind → Job → Lens → Stage → State → Bool → Before → CallStep
+beginBy b j l g s h before = begunBy b j l g (stateBy b (j .auth) s) h before
+
 unfoldable pub planBy : PlanKind → Plan → Job → Lens → State → Bool → Before → CallStep
-planBy PlanKind.Begin r j l s h before = to.begins j l (r .stage) s h before
-planBy PlanKind.Pause r j l s h before = pausing s h before (r .pause)
+planBy PlanKind.Begin r j l s h before = beginBy (r .begin) j l (r .stage) s h before
+planBy PlanKind.Pause r j l s h before = pausing s h before (r .pause) (r .ns)
 planBy PlanKind.Clock r j l s h before = asks s h before CallPoint.Clock
 planBy PlanKind.Tick r j l s h before = asks s h before CallPoint.Tick
 planBy PlanKind.LayKey r j l s h before = keyLaid s h before
 planBy PlanKind.LongPassphrase r j l s h before = refuses s h before DriverError.InvalidArg
-planBy PlanKind.Join r j l s h before = to.begins j l Stage.Ssid (to.connectingState j s) h before
 planBy PlanKind.LongSsid r j l s h before = refuses (linkedState (to.connectingState j s) WifiState.Down) h before DriverError.InvalidArg
 planBy PlanKind.Scan r j l s h before = to.scanStep s h before
+planBy PlanKind.Disconnect r j l s h before = ends (to.disconnectingState s (r .t)) h before Ending.Done
 planBy PlanKind.Done r j l s h before = ends s h before Ending.Done
 planBy PlanKind.Give r j l s h before = ends s h before (j .ending)
+planBy PlanKind.Refuse r j l s h before = refuses s h before (r .error)
+planBy PlanKind.RefuseDown r j l s h before = refuses (linkedState s WifiState.Down) h before (r .error)
 
 abbrev pub planned : Plan → Job → Lens → State → Bool → Before → CallStep
 planned r j l s h before = planBy (r .kind) r j l s h before
 
-unfoldable pub resumeBy : ResumeKind → Stage → Job → Lens → State → CallStep
-resumeBy ResumeKind.Begin g j l s = to.begins j l g s false Before.None
-resumeBy ResumeKind.Numbered g j l s = to.beginsNumbered j l g s
-resumeBy ResumeKind.Done g j l s = ends s false Before.None Ending.Done
+-- ---- after an exchange
 
-abbrev pub resumed : Resume → Job → Lens → State → CallStep
-resumed r j l s = resumeBy (r .kind) (r .stage) j l s
+unfoldable pub stopStep : Stage → DriverError → State → Bool → Before → CallStep
+stopStep g e s h before = pick (isDevError e) (pick (isLast g) (refuses (linkedState s WifiState.Down) h before e) (refuses s h before e)) (refuses s h before e)
+
+-- a refusal that does not stop the call
+unfoldable pub isIgnored : Stage → DriverError → Bool
+isIgnored g e = pick (isDevError e) (isTried g) false
+
+unfoldable pub goesOn : IoctlNowKind → Stage → DriverError → Bool
+goesOn IoctlNowKind.Ask g e = false
+goesOn IoctlNowKind.Done g e = true
+goesOn IoctlNowKind.Refused g e = isIgnored g e
+
+abbrev pub isAsk : IoctlNowKind → Bool
+isAsk IoctlNowKind.Ask = true
+isAsk IoctlNowKind.Done = false
+isAsk IoctlNowKind.Refused = false
+
+-- what is laid when the next step begins
+unfoldable pub beforeIn : IoctlNext → Before
+beforeIn (IoctlNext.Ask h p) = Before.Header h
+beforeIn (IoctlNext.Done c) = Before.Copy c
+beforeIn (IoctlNext.Refused h e) = Before.Header h
 
 -- ---- what a step leaves
 
@@ -127,18 +165,6 @@ pub record Acts (a : Args) (u v b d : List ℕ) (c₀ c f : Bytes) (r : CallNow)
   pub laid : f ≡ laidAll a (s .lay) c₀
   pub held : Holds d (leftBy b s)
   pub heard : s .heard ≡ h
-  pub kept : Kept v
-  pub session : backSession v d ≡ backSession u b
-  pub buf : backBuf v f ≡ backBuf u c
-
--- e: the event that came
-abbrev pub listed : List ℕ → AsyncEvent → CallStep → Session
-listed b e s = record { st = s .st; list = listAt (s .heard) (s .clear) e (sessionIn b .list) }
-
-pub record Calls (a : Args) (u v b d : List ℕ) (c f : Bytes) (r : CallNow) (e : AsyncEvent) (s : CallStep) : Type 0 where
-  pub next : nextOf r ≡ s .next
-  pub laid : f ≡ laidAll a (s .lay) c
-  pub held : Holds d (listed b e s)
   pub kept : Kept v
   pub session : backSession v d ≡ backSession u b
   pub buf : backBuf v f ≡ backBuf u c

@@ -2,12 +2,14 @@
 use crate::now::CallNow;
 use crate::now::exchange_at;
 use crate::now::refuse;
+use crate::plan::BeginKind;
 use control::Job;
 use control::Lens;
 use control::Stage;
 use laying::lay_numbered;
 use laying::lay_whole;
 use places::read::sdpcm_at;
+use places::write::put_auth;
 use places::write::put_wifi;
 use replying::IoctlNow;
 use replying::IoctlNowKind;
@@ -19,6 +21,7 @@ use steps::stages::request_at;
 use steps::stages::request_len;
 use steps::steps::is_dev_error;
 use wlan::DriverError;
+use wlan::WifiAuth;
 use wlan::WifiState;
 ghost use mathlib.Core.Path.{_≡_};
 ghost use mathlib.Core.Bool.{Bool, true, false};
@@ -27,6 +30,7 @@ ghost use Rattle.definition.specs.Bus.{Bytes};
 ghost use Rattle.send.specs.declared.HeaderPut.{HeaderPut};
 ghost use Rattle.ioctl.specs.Ioctl.{startStep};
 ghost use Rattle.control.specs.declared.Before.{Before};
+ghost use Rattle.control.specs.declared.Job as job;
 ghost use Rattle.control.specs.declared.Lay.{Lay};
 ghost use Rattle.control.specs.declared.RequestPut.{RequestPut};
 ghost use Rattle.control.specs.Meaning.{Args, laidBefore, laidRequest};
@@ -34,7 +38,9 @@ ghost use Rattle.control.specs.Stages.{requestAt, requestLen};
 ghost use Rattle.control.specs.Steps.{lays};
 ghost use Rattle.control.specs.Exchange as to;
 ghost use Rattle.effects.specs.Args.{argsOf};
-ghost use Rattle.session_bytes.specs.Session.{isSession, sessionIn};
+ghost use Rattle.session_bytes.specs.Session.{isSession, sessionIn, withState};
+ghost use Rattle.places.specs.Places.{Holds};
+ghost use Rattle.laying.specs.Laying.{LaidKept};
 ghost use Rattle.undo.specs.Undo.{Kept};
 ghost use Rattle.replying.specs.Replying as reply;
 ghost use Rattle.exchanging.specs.Exchanging as at;
@@ -123,10 +129,33 @@ fn begin_laid(s: &mut [u8], undo: &mut [u8], buf: &mut [u8], g: Stage, len: u16)
     begun(s, n, g)
 }
 
+// Lays a stage's request.
+fn lay_by(
+    begin: BeginKind,
+    undo: &mut [u8],
+    buf: &mut [u8],
+    r: Request,
+    first: &[u8],
+    second: &[u8],
+    id: u8,
+)
+    requires { ⌜ Kept (now undo) ⌝ }
+    requires { ⌜ length (now buf) ≡ 2048 ⌝ }
+    ensures laid { λ _. ⌜ ((j : job.Job) → now (buf .exit) ≡ laidRequest (argsOf j (now (first .entry)) (now (second .entry))) (at.putBy begin r id) (now (buf .entry))) ⌝ }
+    ensures kept { λ _. ⌜ LaidKept (now (undo .entry)) (now (undo .exit)) (now (buf .entry)) (now (buf .exit)) ⌝ }
+{
+    match begin {
+        BeginKind::Whole => lay_whole(undo, buf, r, first, second, id),
+        BeginKind::Numbered => lay_numbered(undo, buf, r, first, second, id),
+        BeginKind::Joined => lay_whole(undo, buf, r, first, second, id),
+    }
+}
+
 // A stage's request is laid, and its exchange begins. buf has `before` laid already.
-pub fn begin(
+fn begin_put(
     j: Job,
     l: Lens,
+    begin: BeginKind,
     g: Stage,
     s: &mut [u8],
     undo: &mut [u8],
@@ -137,18 +166,38 @@ pub fn begin(
     requires { ⌜ isSession (now s) ≡ true ⌝ }
     requires { ⌜ Kept (now undo) ⌝ }
     requires { ⌜ length (now buf) ≡ 2048 ⌝ }
-    ensures { λ r. ⌜ ((h : Bool) (before : Before) (c₀ : Bytes) → now (buf .entry) ≡ laidBefore before c₀ → at.Acts (argsOf j (now (first .entry)) (now (second .entry))) (now (undo .entry)) (now (undo .exit)) (now (s .entry)) (now (s .exit)) c₀ (now (buf .entry)) (now (buf .exit)) r h (to.begins j l g (sessionIn (now (s .entry)) .st) h before)) ⌝ }
+    ensures { λ r. ⌜ ((h : Bool) (before : Before) (c₀ : Bytes) → now (buf .entry) ≡ laidBefore before c₀ → at.Acts (argsOf j (now (first .entry)) (now (second .entry))) (now (undo .entry)) (now (undo .exit)) (now (s .entry)) (now (s .exit)) c₀ (now (buf .entry)) (now (buf .exit)) r h (at.begunBy begin j l g (sessionIn (now (s .entry)) .st) h before)) ⌝ }
 {
     let r = request_at(j, g);
     let id = new_id(s);
-    lay_whole(undo, buf, r, first, second, id);
+    lay_by(begin, undo, buf, r, first, second, id);
     begin_laid(s, undo, buf, g, request_len(r, l))
 }
 
-// The same where the payload lies there already.
-pub fn begin_numbered(
+pub fn connecting(s: &mut [u8], a: WifiAuth)
+    requires { ⌜ isSession (now s) ≡ true ⌝ }
+    ensures { λ _. ⌜ Holds (now (s .exit)) (withState (now (s .entry)) (at.connectingBy a (sessionIn (now (s .entry)) .st))) ⌝ }
+{
+    put_auth(s, a);
+    put_wifi(s, WifiState::Connecting);
+}
+
+// Join's last request begins with the link's state.
+fn connect_by(begin: BeginKind, s: &mut [u8], a: WifiAuth)
+    requires { ⌜ isSession (now s) ≡ true ⌝ }
+    ensures { λ _. ⌜ Holds (now (s .exit)) (withState (now (s .entry)) (at.stateBy begin a (sessionIn (now (s .entry)) .st))) ⌝ }
+{
+    match begin {
+        BeginKind::Whole => {}
+        BeginKind::Numbered => {}
+        BeginKind::Joined => connecting(s, a),
+    }
+}
+
+pub fn begin(
     j: Job,
     l: Lens,
+    begin: BeginKind,
     g: Stage,
     s: &mut [u8],
     undo: &mut [u8],
@@ -159,10 +208,9 @@ pub fn begin_numbered(
     requires { ⌜ isSession (now s) ≡ true ⌝ }
     requires { ⌜ Kept (now undo) ⌝ }
     requires { ⌜ length (now buf) ≡ 2048 ⌝ }
-    ensures { λ r. ⌜ at.Acts (argsOf j (now (first .entry)) (now (second .entry))) (now (undo .entry)) (now (undo .exit)) (now (s .entry)) (now (s .exit)) (now (buf .entry)) (now (buf .entry)) (now (buf .exit)) r false (to.beginsNumbered j l g (sessionIn (now (s .entry)) .st)) ⌝ }
+    ensures { λ r. ⌜ ((h : Bool) (before : Before) (c₀ : Bytes) → now (buf .entry) ≡ laidBefore before c₀ → at.Acts (argsOf j (now (first .entry)) (now (second .entry))) (now (undo .entry)) (now (undo .exit)) (now (s .entry)) (now (s .exit)) c₀ (now (buf .entry)) (now (buf .exit)) r h (at.beginBy begin j l g (sessionIn (now (s .entry)) .st) h before)) ⌝ }
 {
-    let r = request_at(j, g);
-    let id = new_id(s);
-    lay_numbered(undo, buf, r, first, second, id);
-    begin_laid(s, undo, buf, g, request_len(r, l))
+    let a = j.auth;
+    connect_by(begin, s, a);
+    begin_put(j, l, begin, g, s, undo, buf, first, second)
 }

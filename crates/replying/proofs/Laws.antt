@@ -177,3 +177,7 @@ faulted s len IoctlPoint.First place a h = refl
 faulted s len (IoctlPoint.Test t0) place a h = refl
 faulted s len (IoctlPoint.Polling t0 q) place a h = refl
 faulted s len (IoctlPoint.Waited t0) place a h = absurd (true≢false h)
+
+pub fault-replies : {u b : List ℕ} {c : Bytes} {r : IoctlNow} (e : AsyncEvent) (len : ℕ) (p : IoctlPoint) (place : ℕ) (a : Arrival) → Kept u → isSession b ≡ true → isWait (to.ioctlOp p) ≡ false
+    → ((h : HeaderPut) → nextOf r h ≡ IoctlNext.Refused h (DriverError.Fault place)) → Replies u u b b c c r e (to.ioctlAnswer (sessionIn b .st) len p (BusAnswer.Fault place) a)
+fault-replies {u} {b} {c} {r} e len p place a k hb w f = rw (faulted (sessionIn b .st) len p place a w) (unlaid e k hb (still hb (rw (f HeaderPut.None) refl)))

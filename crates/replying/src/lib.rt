@@ -12,6 +12,7 @@ use receive::polled::PolledKind;
 use receive::polled::poll_device;
 use receive::polled::poll_from;
 use sdpcm::header::next_id;
+use sdpcm::status::f2_ready;
 use send::elapsed_us;
 use sending::SendAt;
 use sending::SendKind;
@@ -24,16 +25,20 @@ use wlan::PendingIoctlResp;
 use wlan::PendingResp;
 ghost use mathlib.Core.Path.{_≡_};
 ghost use mathlib.Core.Bool.{Bool, true, false};
+ghost use Prim.Native.Nat.{ℕ};
 ghost use lib.ListN.{length};
 ghost use Rattle.wlan.specs.declared.AsyncEvent.{AsyncEvent};
 ghost use Rattle.wlan.specs.declared.BusAnswer.{BusAnswer};
+ghost use Rattle.wlan.specs.declared.DriverError as error;
 ghost use Rattle.wlan.specs.declared.State.{State};
 ghost use Rattle.definition.specs.Ioctl.{isZero};
 ghost use Rattle.definition.specs.Send.{responseOf};
 ghost use Rattle.device.specs.Poll.{pollOp};
 ghost use Rattle.device.specs.Meaning.{arrivalAt, Tells};
 ghost use Rattle.send.specs.declared.HeaderPut.{HeaderPut};
+ghost use Rattle.send.specs.Send.{readyStep};
 ghost use Rattle.ioctl.specs.declared.IoctlNext as next;
+ghost use Rattle.ioctl.specs.declared.IoctlPoint.{IoctlPoint};
 ghost use Rattle.ioctl.specs.Ioctl as to;
 ghost use Rattle.session_bytes.specs.Session.{isSession, sessionIn};
 ghost use Rattle.receive.specs.Receive as poll;
@@ -292,7 +297,38 @@ fn test_read(s: &[u8], t0: u64, t: u64) -> IoctlNow
     }
 }
 
-fn sending_answer(
+fn send_at(kind: SendKind, left: u16, n: u16) -> IoctlNow
+    ensures { λ r. ⌜ ((h : HeaderPut) → at.nextOf r h ≡ next.IoctlNext.Ask h (IoctlPoint.Sending (send.pointBy kind send.unpolled 0 left n))) ⌝ }
+{
+    asks(
+        IoctlKind::Sending,
+        SendAt {
+            kind: kind,
+            at: unpolled(),
+            t0: 0,
+            left: left,
+            n: n,
+        },
+        unpolled(),
+        0,
+    )
+}
+
+// The status before the write.
+fn ready_read(left: u16, n: u16, v: u32) -> IoctlNow
+    ensures { λ r. ⌜ ((s : State) (len : ℕ) → to.sendingStep (readyStep s left n v) len ≡ at.stays s false r) ⌝ }
+{
+    if f2_ready(v) {
+        return send_at(SendKind::Writing, 0, n);
+    }
+    if left == 0 {
+        return refuse(DriverError::Timeout);
+    }
+    send_at(SendKind::Ready, left - 1, n)
+}
+
+// A point of the send's stall.
+fn stall_answer(
     s: &mut [u8],
     undo: &mut [u8],
     buf: &mut [u8],
@@ -307,6 +343,38 @@ fn sending_answer(
 {
     let n = send_answer(s, undo, buf, out_of(len), q, v);
     sending_next(s, n, len)
+}
+
+// A send that need not wait has two answers: the status and the write.
+fn sending_answer(
+    s: &mut [u8],
+    undo: &mut [u8],
+    buf: &mut [u8],
+    len: u16,
+    q: SendAt,
+    v: u64,
+) -> IoctlNow
+    requires { ⌜ isSession (now s) ≡ true ⌝ }
+    requires { ⌜ Kept (now undo) ⌝ }
+    requires { ⌜ length (now buf) ≡ 2048 ⌝ }
+    ensures { λ r. ⌜ at.Replies (now (undo .entry)) (now (undo .exit)) (now (s .entry)) (now (s .exit)) (now (buf .entry)) (now (buf .exit)) r (at.sendArrival (send.pointOf q) (now (buf .entry)) (sessionIn (now (s .entry)) .st) .event) (to.sendingStep (at.sendStep (sessionIn (now (s .entry)) .st) len (send.pointOf q) v (now (buf .entry))) len) ⌝ }
+{
+    let k = q.kind;
+    match k {
+        SendKind::First => stall_answer(s, undo, buf, len, q, v),
+        SendKind::Polling => stall_answer(s, undo, buf, len, q, v),
+        SendKind::Late => stall_answer(s, undo, buf, len, q, v),
+        SendKind::Waited => stall_answer(s, undo, buf, len, q, v),
+        SendKind::Ready => ready_read(q.left, q.n, (v % 4294967296) as u32),
+        SendKind::Writing => sent(s, len),
+    }
+}
+
+// The operation, no wait, met a fault.
+pub fn ioctl_fault(place: u8) -> IoctlNow
+    ensures { λ r. ⌜ ((h : HeaderPut) → at.nextOf r h ≡ next.IoctlNext.Refused h (error.DriverError.Fault place)) ⌝ }
+{
+    refuse(DriverError::Fault(place))
 }
 
 // The value of an answer to the operation at p.

@@ -9,14 +9,14 @@ use Rattle.exchange_call.proofs.asks.ioctl_ask.Reads as reads
 use Rattle.exchange_call.proofs.asks.ioctl_ask.Lts as lts
 use Rattle.asking.proofs.ask_clock.Reads as ask-clock-reads
 use Rattle.asking.proofs.ask_wait.Reads as ask-wait-reads
-use Rattle.send_call.proofs.asks.send_ask.Reads as send-ask-reads
+use Rattle.exchange_call.proofs.asks.sending_ask.Reads as sending-ask-reads
 use Rattle.turning.proofs.device_ask.Reads as device-ask-reads
 
 enum-told : tie.Need-enum-told
 enum-told c = search needs
 
-send-ask-requires : tie.Need-send-ask-requires
-send-ask-requires c κs = search needs
+sending-ask-requires : tie.Need-sending-ask-requires
+sending-ask-requires c κs = search needs
 
 enum-told-2 : tie.Need-enum-told-2
 enum-told-2 c = search needs
@@ -53,7 +53,7 @@ same-length-3 c = search needs
 
 returns : tie.Need-returns
 unfolding ioctlOp pointBy
-returns c = simp (c .before .before .before .before .before .before .before .before .before .before .enum-told .given .1) (c .before .before .before .before .before .before .send-ask .ensures .0, c .before .before .before .before .before .before .send-ask .ensures .1)
+returns c = simp (c .before .before .before .before .before .before .before .before .before .before .enum-told .given .1) (c .before .before .before .before .before .before .sending-ask .ensures .0, c .before .before .before .before .before .before .sending-ask .ensures .1)
 
 same-length-4 : tie.Need-same-length-4
 same-length-4 c = search needs
@@ -94,7 +94,7 @@ ioctl-ask-spec =
     tie.close
     (tie.spec
     enum-told
-    send-ask-requires
+    sending-ask-requires
     enum-told-2
     ask-clock-requires
     enum-told-3

@@ -1,26 +1,27 @@
 use mathlib.Core.Path.{_∙_}
-use Rattle.control.specs.Exchange.{ssidStep}
-use Rattle.exchanging.specs.Exchanging.{planBy}
+use Rattle.control.specs.Exchange as to
+use Rattle.exchanging.specs.Exchanging.{planBy, stateBy, putBy}
 use borrow.Author.Needs.{needs}
 use Rattle.exchanging.proofs.plan.ssid_plan.Statement.{statement}
 use Rattle.exchanging.proofs.plan.ssid_plan.Tie as tie
 use Rattle.exchanging.proofs.plan.ssid_plan.Reads as reads
 use Rattle.exchanging.proofs.plan.ssid_plan.Lts as lts
+use Rattle.exchanging.proofs.plan.begin_at.Reads as begin-at-reads
 use Rattle.exchanging.proofs.plan.only.Reads as only-reads
 
 only-requires : tie.Need-only-requires
 only-requires c κs = search needs
 
-only-requires-2 : tie.Need-only-requires-2
-only-requires-2 c κs = search needs
+begin-at-requires : tie.Need-begin-at-requires
+begin-at-requires c κs = search needs
 
 returns : tie.Need-returns
-unfolding ssidStep planBy
+unfolding to.ssidStep planBy
 returns c = λ j l s h before e. simp (e ∙ c .before .if1 .taken, c .only .ensures)
 
 returns-2 : tie.Need-returns-2
-unfolding ssidStep planBy
-returns-2 c = λ j l s h before e. simp (e ∙ c .before .if1 .left, c .only2 .ensures)
+unfolding to.ssidStep to.begins stateBy putBy
+returns-2 c = λ j l s h before e. simp (e ∙ c .before .if1 .left) (c .begin-at .ensures j l s h before)
 
 pub ssid-plan-spec : {M : Type 1} → statement M
-ssid-plan-spec = tie.close (tie.spec only-requires only-requires-2 returns returns-2)
+ssid-plan-spec = tie.close (tie.spec only-requires begin-at-requires returns returns-2)
