@@ -161,18 +161,21 @@ front-of {b} {d} {s} h q = record { known = q .held .known; back = λ u k. front
 pub front-same : {b : List ℕ} → isSession b ≡ true → to.Front b b
 front-same h = record { known = h; back = λ u k. refl }
 
+pub front-then : {b c d : List ℕ} → to.Front b c → to.Front c d → to.Front b d
+front-then f g = record { known = g .known; back = λ u k. g .back u k ∙ f .back u k }
+
 -- ---- the loop
 
--- s, u, b: session, what is kept and work buffer, before the loop and now; x: what the run comes to
-pub record Running (rec : List ℕ) (s₀ u₀ log₀ : List ℕ) (b₀ : Bytes) (x : World → End) (s u log : List ℕ) (b : Bytes) (t : PollTurned) : Type 0 where
+-- what the loop began with comes to what it stands at now
+pub record Running (rec s₀ u₀ log₀ : List ℕ) (b₀ : Bytes) (t₀ : PollTurned) (s u log : List ℕ) (b : Bytes) (t : PollTurned) : Type 0 where
   pub log-len : length log ≡ length log₀
-  pub buf-len : length b ≡ length b₀
+  pub buf-len : length b ≡ 2048
   pub session-len : length s ≡ length s₀
   pub undo-len : length u ≡ length u₀
   pub held : isSession s ≡ true
   pub kept : turning.KeptAll u₀ u s₀ s b₀ b
   pub room : t .on ≡ true → t .end .len ≤ length log₀
-  pub turns : (e : World) → to.Turns e (x e) rec t log s b
+  pub turns : (e : World) (x : End) → to.Turns e x rec t₀ log₀ s₀ b₀ → to.Turns e x rec t log s b
 
 -- each turn takes a word of the log or more
 abbrev pub left : List ℕ → PollTurned → ℕ

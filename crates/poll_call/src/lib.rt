@@ -27,6 +27,7 @@ ghost use lib.ListN.{length, drop};
 ghost use Rattle.wlan.specs.declared.BusAnswer.{BusAnswer};
 ghost use Rattle.definition.specs.Bus.{Ans, Bytes};
 ghost use Rattle.definition.specs.Prog.{World};
+ghost use Rattle.definition.specs.Run.{End};
 ghost use Rattle.device.specs.Poll.{pollOp, pollStart};
 ghost use Rattle.device.specs.Meaning.{told, landing, InRange};
 ghost use Rattle.control.specs.declared.CallNext as next;
@@ -240,6 +241,33 @@ fn first_turn(p: PollAt, s: &mut [u8], rec: &[u32], log: &mut [u32]) -> PollTurn
     }
 }
 
+// From a turn on to the end.
+fn poll_on(
+    first: PollTurned,
+    s: &mut [u8],
+    undo: &mut [u8],
+    rec: &[u32],
+    log: &mut [u32],
+    buf: &mut [u8],
+) -> RunEnd
+    requires { ⌜ isSession (now s) ≡ true ⌝ }
+    requires { ⌜ Kept (now undo) ⌝ }
+    requires { ⌜ length (now buf) ≡ 2048 ⌝ }
+    requires { ⌜ (first .on ≡ true → first .end .len ≤ length (now log)) ⌝ }
+    ensures on { λ r. ⌜ ((e : World) (x : End) → to.Turns e x (now (rec .entry)) first (now (log .entry)) (now (s .entry)) (now (buf .entry)) → turning.Ends e x r (now (log .exit)) (now (s .exit)) (now (buf .exit))) ⌝ }
+    ensures held { λ _. ⌜ isSession (now (s .exit)) ≡ true ⌝ }
+    ensures kept { λ _. ⌜ turning.KeptAll (now (undo .entry)) (now (undo .exit)) (now (s .entry)) (now (s .exit)) (now (buf .entry)) (now (buf .exit)) ⌝ }
+{
+    let mut t = first;
+    while t.on {
+        let p = t.at;
+        let end = t.end;
+        t = poll_turn(p, t.pos, end.len, s, undo, rec, log, buf);
+    }
+    let end = t.end;
+    end
+}
+
 // From its beginning to its end.
 pub fn poll_run(
     s: &mut [u8],
@@ -255,12 +283,6 @@ pub fn poll_run(
     ensures held { λ _. ⌜ isSession (now (s .exit)) ≡ true ⌝ }
     ensures kept { λ _. ⌜ turning.KeptAll (now (undo .entry)) (now (undo .exit)) (now (s .entry)) (now (s .exit)) (now (buf .entry)) (now (buf .exit)) ⌝ }
 {
-    let mut t = first_turn(poll_from(s), s, rec, log);
-    while t.on {
-        let p = t.at;
-        let end = t.end;
-        t = poll_turn(p, t.pos, end.len, s, undo, rec, log, buf);
-    }
-    let end = t.end;
-    end
+    let t = first_turn(poll_from(s), s, rec, log);
+    poll_on(t, s, undo, rec, log, buf)
 }

@@ -1,3 +1,10 @@
+-- <<
+use mathlib.Core.Path.{_≡_, refl, sym, _∙_}
+use native.Mathlib.Omega.{arith}
+use Rattle.receive.specs.Receive.{pointBy}
+use Rattle.poll_call.specs.PollCall as to
+use Rattle.poll_call.proofs.Laws.{on-turns, front-same}
+-- >>
 use borrow.Author.Needs.{needs}
 use Rattle.poll_call.proofs.first_turn.Statement.{statement}
 use Rattle.poll_call.proofs.first_turn.Tie as tie
@@ -64,27 +71,28 @@ same-length-2 c = search needs
 
 -- src/lib.rt:226:1
 returns : tie.Need-returns
-returns c = ?
+unfolding pointBy
+returns c = rw (c .before .before .before .before .before .before .before .enum-told .given .1) (c .before .before .before .before .interrupt-turn .ensures)
 
 -- src/lib.rt:226:1
 returns-2 : tie.Need-returns-2
-returns-2 c = ?
+returns-2 c = (λ e buf. on-turns e (c .before .before .before .before .before .before .args .rec .now) (c .before .before .before .before .before .before .args .log .now) (c .before .before .before .before .before .before .args .s .now) buf _ (c .before .before .before .before .before .before .args .p) 0 0 (c .onward .ensures .0) (c .onward .ensures .1) (c .onward .ensures .2) (c .onward .ensures .3), (front-same (c .before .before .before .before .before .before .pre), λ t. omega (arith, c .onward .ensures .3)))
 
 -- src/lib.rt:226:1
 returns-3 : tie.Need-returns-3
-returns-3 c = ?
+returns-3 c = (λ e buf. on-turns e (c .before .before .before .before .before .before .args .rec .now) (c .before .before .before .before .before .before .args .log .now) (c .before .before .before .before .before .before .args .s .now) buf _ (c .before .before .before .before .before .before .args .p) 0 0 (c .onward2 .ensures .0) (c .onward2 .ensures .1) (c .onward2 .ensures .2) (c .onward2 .ensures .3), (front-same (c .before .before .before .before .before .before .pre), λ t. omega (arith, c .onward2 .ensures .3)))
 
 -- src/lib.rt:226:1
 returns-4 : tie.Need-returns-4
-returns-4 c = ?
+returns-4 c = (λ e buf. on-turns e (c .before .before .before .before .before .before .args .rec .now) (c .before .before .before .before .before .before .args .log .now) (c .before .before .before .before .before .before .args .s .now) buf _ (c .before .before .before .before .before .before .args .p) 0 0 (c .onward3 .ensures .0) (c .onward3 .ensures .1) (c .onward3 .ensures .2) (c .onward3 .ensures .3), (front-same (c .before .before .before .before .before .before .pre), λ t. omega (arith, c .onward3 .ensures .3)))
 
 -- src/lib.rt:226:1
 returns-5 : tie.Need-returns-5
-returns-5 c = ?
+returns-5 c = (λ e buf. on-turns e (c .before .before .before .before .before .before .args .rec .now) (c .before .before .before .before .before .before .args .log .now) (c .before .before .before .before .before .before .args .s .now) buf _ (c .before .before .before .before .before .before .args .p) 0 0 (c .onward4 .ensures .0) (c .onward4 .ensures .1) (c .onward4 .ensures .2) (c .onward4 .ensures .3), (front-same (c .before .before .before .before .before .before .pre), λ t. omega (arith, c .onward4 .ensures .3)))
 
 -- src/lib.rt:226:1
 returns-6 : tie.Need-returns-6
-returns-6 c = ?
+returns-6 c = (λ e buf. on-turns e (c .before .before .before .before .before .before .args .rec .now) (c .before .before .before .before .before .before .args .log .now) (c .before .before .before .before .before .before .args .s .now) buf _ (c .before .before .before .before .before .before .args .p) 0 0 (c .onward5 .ensures .0) (c .onward5 .ensures .1) (c .onward5 .ensures .2) (c .onward5 .ensures .3), (front-same (c .before .before .before .before .before .before .pre), λ t. omega (arith, c .onward5 .ensures .3)))
 
 pub first-turn-spec : {M : Type 1} → statement M
 first-turn-spec =

@@ -1,3 +1,27 @@
+-- <<
+use mathlib.Core.Path.{_≡_, refl, sym, _∙_}
+use mathlib.Core.Bool.{true≢false}
+use native.Mathlib.Omega.{arith}
+use mathlib.Core.List.{[]}
+use lib.ListN.{drop, length}
+use Rattle.wlan.specs.declared.BusOp.{BusOp}
+use Rattle.wlan.specs.declared.DriverError.{DriverError}
+use Rattle.definition.specs.Run.{End}
+use Rattle.device.specs.declared.PollPoint.{PollPoint}
+use Rattle.device.specs.Poll.{pollOp}
+use Rattle.device.specs.Meaning.{arrivalAt}
+use Rattle.control.specs.declared.CallNext.{CallNext}
+use Rattle.control.specs.declared.CallPoint.{CallPoint}
+use Rattle.control.specs.Steps.{callOp}
+use Rattle.control.specs.Meaning.{callTree, Kc, secretAt}
+use Rattle.receive.specs.Receive.{pointBy}
+use Rattle.session_bytes.specs.Session.{sessionIn}
+use Rattle.polls.specs.Polls.{Gives, NextBy}
+use Rattle.turning.specs.Turning as turning
+use Rattle.turning.proofs.Laws as law
+use Rattle.poll_call.specs.PollCall as to
+use Rattle.poll_call.proofs.Laws.{gives-ends, interrupt-steps, interrupt-faults, over-turns, on-turns, front-of, front-same, front-then}
+-- >>
 use borrow.Author.Needs.{needs}
 use Rattle.poll_call.proofs.interrupt_turn.Statement.{statement}
 use Rattle.poll_call.proofs.interrupt_turn.Tie as tie
@@ -14,6 +38,14 @@ use Rattle.run_end.proofs.polled_end.Reads as polled-end-reads
 use Rattle.turning.proofs.back_end.Reads as back-end-reads
 use Rattle.turning.proofs.is_back.Reads as is-back-reads
 
+-- ++
+log-kept : (c : tie.After-interrupt-read) → length (c .before .before .before .before .before .before .before .ask-interrupt .last .1 .1 .1 .0) ≡ length (c .before .before .before .before .before .before .before .before .before .before .before .before .args .log .now)
+log-kept c = search needs
+
+tick-kept : (c : tie.After-tick-over) → length (c .tick-over .last .1 .1 .1 .1 .1 .0) ≡ length (c .before .before .before .before .before .before .before .before .before .before .before .before .before .before .before .before .before .before .before .before .before .args .log .now)
+tick-kept c = search needs
+
+-- --
 -- src/lib.rt:206:9
 ask-interrupt-requires : tie.Need-ask-interrupt-requires
 ask-interrupt-requires c κs = search needs
@@ -36,7 +68,8 @@ same-length c = search needs
 
 -- src/lib.rt:208:9
 returns : tie.Need-returns
-returns c = ?
+unfolding callTree callOp pollOp pointBy NextBy
+returns c = (λ e buf. over-turns e _ (c .before .before .before .before .before .before .before .before .before .before .before .args .rec .now) _ (c .before .before .before .before .before .before .before .before .before .before .before .args .s .now) buf _ (c .over .ensures .0) (c .over .ensures .1) (law.asked-back BusOp.ReadInterrupt (c .before .before .before .before .before .before .ask-interrupt .result) (c .before .before .before .before .before .before .ask-interrupt .ensures buf) e (secretAt to.noArgs (CallPoint.Poll PollPoint.Interrupt)) (λ y. Kc to.noArgs (CallPoint.Poll PollPoint.Interrupt) y (turning.worldIn (c .before .before .before .before .before .before .before .before .before .before .before .args .s .now) buf)) (c .before .before .before .before .before .before .before .before .before .before .before .args .s .now) (c .before .back-end .result) (λ on. c .before .back-end .ensures e on _ (c .before .before .before .before .before .before .before .before .before .before .before .args .s .now) buf (sym (c .before .before .before .is-back .ensures) ∙ c .before .before .if1 .taken))), (front-same (c .before .before .before .before .before .before .before .before .before .before .before .pre), λ t. absurd (true≢false (sym t ∙ c .over .ensures .0))))
 
 -- src/lib.rt:211:21
 fault-end-requires : tie.Need-fault-end-requires
@@ -52,7 +85,8 @@ same-length-2 c = search needs
 
 -- src/lib.rt:211:9
 returns-2 : tie.Need-returns-2
-returns-2 c = ?
+unfolding callTree callOp pollOp pointBy NextBy
+returns-2 c = (λ e buf. over-turns e _ (c .before .before .before .before .before .before .before .before .before .before .before .before .args .rec .now) _ (c .before .before .before .before .before .before .before .before .before .before .before .before .args .s .now) buf _ (c .over2 .ensures .0) (c .over2 .ensures .1 ∙ c .before .fault-end .ensures) (law.asked-fault BusOp.ReadInterrupt (c .before .before .before .before .before .before .before .ask-interrupt .result) (c .before .before .before .before .before .before .before .ask-interrupt .ensures buf) e (secretAt to.noArgs (CallPoint.Poll PollPoint.Interrupt)) (λ y. Kc to.noArgs (CallPoint.Poll PollPoint.Interrupt) y (turning.worldIn (c .before .before .before .before .before .before .before .before .before .before .before .before .args .s .now) buf)) (c .before .before .before .before .before .before .before .before .before .before .before .before .args .s .now) (law.not-back _ (sym (c .before .before .before .before .is-back .ensures) ∙ c .before .before .before .if1 .left)) (c .before .before .if2 .taken) (λ y hv i hb. interrupt-faults y buf e (drop (c .before .before .before .before .before .before .before .ask-interrupt .result .pos) (c .before .before .before .before .before .before .before .before .before .before .before .before .args .rec .now)) _ (c .before .before .before .before .before .before .before .ask-interrupt .result .len) (c .before .before .before .before .before .before .before .before .before .before .before .before .args .s .now) (c .before .before .before .before .before .before .before .ask-interrupt .result .value) i hv)), (front-same (c .before .before .before .before .before .before .before .before .before .before .before .before .pre), λ t. absurd (true≢false (sym t ∙ c .over2 .ensures .0))))
 
 -- src/lib.rt:213:9
 interrupt-read-requires : tie.Need-interrupt-read-requires
@@ -72,7 +106,7 @@ enum-told-2 c = search needs
 
 -- src/lib.rt:219:31
 tick-over-requires : tie.Need-tick-over-requires
-tick-over-requires c κs = ?
+tick-over-requires c κs = c .before .before .before .before .before .before .before .before .interrupt-read .ensures (arrivalAt BusOp.ReadInterrupt [] (sessionIn (c .before .before .before .before .before .before .before .before .before .before .before .before .before .before .before .before .before .before .before .before .args .s .now) .st .sdpcm)) .held .known
 
 -- src/lib.rt:219:26
 over-requires-3 : tie.Need-over-requires-3
@@ -112,7 +146,8 @@ same-length-4 c = search needs
 
 -- src/lib.rt:200:1
 returns-3 : tie.Need-returns-3
-returns-3 c = ?
+unfolding callTree callOp pollOp pointBy NextBy
+returns-3 c = (λ e buf. law.asked-value BusOp.ReadInterrupt (c .before .before .before .before .before .before .before .before .before .before .before .before .before .before .ask-interrupt .result) (c .before .before .before .before .before .before .before .before .before .before .before .before .before .before .ask-interrupt .ensures buf) e (secretAt to.noArgs (CallPoint.Poll PollPoint.Interrupt)) (λ y. Kc to.noArgs (CallPoint.Poll PollPoint.Interrupt) y (turning.worldIn (c .before .before .before .before .before .before .before .before .before .before .before .before .before .before .before .before .before .before .before .args .s .now) buf)) (c .before .before .before .before .before .before .before .before .before .before .before .before .before .before .before .before .before .before .before .args .s .now) (λ (x : End). to.Turns e x (c .before .before .before .before .before .before .before .before .before .before .before .before .before .before .before .before .before .before .before .args .rec .now) (c .onward .result) (c .before .before .before .before .before .before .before .before .before .before .before .before .before .before .ask-interrupt .last .1 .1 .1 .0) (c .before .before .before .before .before .before .before .interrupt-read .last .0) buf) (law.not-back _ (sym (c .before .before .before .before .before .before .before .before .before .before .before .is-back .ensures) ∙ c .before .before .before .before .before .before .before .before .before .before .if1 .left)) (c .before .before .before .before .before .before .before .before .before .if2 .left) (λ y hv i hb. let k = c .before .before .before .before .before .before .before .interrupt-read .ensures (arrivalAt BusOp.ReadInterrupt buf (sessionIn (c .before .before .before .before .before .before .before .before .before .before .before .before .before .before .before .before .before .before .before .args .s .now) .st .sdpcm)) in rw (← interrupt-steps y buf e (drop (c .before .before .before .before .before .before .before .before .before .before .before .before .before .before .ask-interrupt .result .pos) (c .before .before .before .before .before .before .before .before .before .before .before .before .before .before .before .before .before .before .before .args .rec .now)) _ (c .before .before .before .before .before .before .before .before .before .before .before .before .before .before .ask-interrupt .result .len) (c .before .before .before .before .before .before .before .interrupt-read .result) (c .before .before .before .before .before .before .before .before .before .before .before .before .before .before .before .before .before .before .before .args .s .now) (c .before .before .before .before .before .before .before .before .before .before .before .before .before .before .ask-interrupt .result .value) i hv k) (let g : to.asksAt (c .before .before .before .before .before .before .before .interrupt-read .result .at) ≡ _ = rw (c .before .enum-told .given .1) at (k .next) in rw (← g) (on-turns e (c .before .before .before .before .before .before .before .before .before .before .before .before .before .before .before .before .before .before .before .args .rec .now) (c .before .before .before .before .before .before .before .before .before .before .before .before .before .before .ask-interrupt .last .1 .1 .1 .0) (c .before .before .before .before .before .before .before .interrupt-read .last .0) buf _ (c .before .before .before .before .before .before .before .interrupt-read .result .at) (c .before .before .before .before .before .before .before .before .before .before .before .before .before .before .ask-interrupt .result .pos) (c .before .before .before .before .before .before .before .before .before .before .before .before .before .before .ask-interrupt .result .len) (c .onward .ensures .0) (c .onward .ensures .1) (c .onward .ensures .2) (c .onward .ensures .3)))), (front-of (c .before .before .before .before .before .before .before .before .before .before .before .before .before .before .before .before .before .before .before .pre) (c .before .before .before .before .before .before .before .interrupt-read .ensures (arrivalAt BusOp.ReadInterrupt [] (sessionIn (c .before .before .before .before .before .before .before .before .before .before .before .before .before .before .before .before .before .before .before .args .s .now) .st .sdpcm))), λ t. omega (arith, c .onward .ensures .3, law.asked-grew (c .before .before .before .before .before .before .before .before .before .before .before .before .before .before .ask-interrupt .ensures []) (law.not-back _ (sym (c .before .before .before .before .before .before .before .before .before .before .before .is-back .ensures) ∙ c .before .before .before .before .before .before .before .before .before .before .if1 .left)) .1)))
 
 -- src/lib.rt:200:1
 same-length-5 : tie.Need-same-length-5
@@ -120,11 +155,12 @@ same-length-5 c = search needs
 
 -- src/lib.rt:200:1
 same-length-6 : tie.Need-same-length-6
-same-length-6 c = ?
+same-length-6 c = tick-kept (c .before .before .before .before .before)
 
 -- src/lib.rt:200:1
 returns-4 : tie.Need-returns-4
-returns-4 c = ?
+unfolding callTree callOp pollOp pointBy NextBy
+returns-4 c = (λ e buf. law.asked-value BusOp.ReadInterrupt (c .before .before .before .before .before .before .before .before .before .before .before .before .before .before .before .before .before .before .before .before .before .ask-interrupt .result) (c .before .before .before .before .before .before .before .before .before .before .before .before .before .before .before .before .before .before .before .before .before .ask-interrupt .ensures buf) e (secretAt to.noArgs (CallPoint.Poll PollPoint.Interrupt)) (λ y. Kc to.noArgs (CallPoint.Poll PollPoint.Interrupt) y (turning.worldIn (c .before .before .before .before .before .before .before .before .before .before .before .before .before .before .before .before .before .before .before .before .before .before .before .before .before .before .args .s .now) buf)) (c .before .before .before .before .before .before .before .before .before .before .before .before .before .before .before .before .before .before .before .before .before .before .before .before .before .before .args .s .now) (λ (x : End). to.Turns e x (c .before .before .before .before .before .before .before .before .before .before .before .before .before .before .before .before .before .before .before .before .before .before .before .before .before .before .args .rec .now) (c .over3 .result) (c .before .before .before .before .before .tick-over .last .1 .1 .1 .1 .1 .0) (c .before .before .before .before .before .tick-over .last .1 .1 .1 .0) buf) (law.not-back _ (sym (c .before .before .before .before .before .before .before .before .before .before .before .before .before .before .before .before .before .before .is-back .ensures) ∙ c .before .before .before .before .before .before .before .before .before .before .before .before .before .before .before .before .before .if1 .left)) (c .before .before .before .before .before .before .before .before .before .before .before .before .before .before .before .before .if2 .left) (λ y hv i hb. let k = c .before .before .before .before .before .before .before .before .before .before .before .before .before .before .interrupt-read .ensures (arrivalAt BusOp.ReadInterrupt buf (sessionIn (c .before .before .before .before .before .before .before .before .before .before .before .before .before .before .before .before .before .before .before .before .before .before .before .before .before .before .args .s .now) .st .sdpcm)) in rw (← interrupt-steps y buf e (drop (c .before .before .before .before .before .before .before .before .before .before .before .before .before .before .before .before .before .before .before .before .before .ask-interrupt .result .pos) (c .before .before .before .before .before .before .before .before .before .before .before .before .before .before .before .before .before .before .before .before .before .before .before .before .before .before .args .rec .now)) _ (c .before .before .before .before .before .before .before .before .before .before .before .before .before .before .before .before .before .before .before .before .before .ask-interrupt .result .len) (c .before .before .before .before .before .before .before .before .before .before .before .before .before .before .interrupt-read .result) (c .before .before .before .before .before .before .before .before .before .before .before .before .before .before .before .before .before .before .before .before .before .before .before .before .before .before .args .s .now) (c .before .before .before .before .before .before .before .before .before .before .before .before .before .before .before .before .before .before .before .before .before .ask-interrupt .result .value) i hv k) (let g : CallNext.Ask (CallPoint.PollTick (c .before .before .before .before .before .before .before .before .before .before .before .before .before .before .interrupt-read .result .started)) ≡ _ = rw (c .before .before .before .before .before .before .before .before .enum-told2 .given .1) at (k .next) in rw (← g) (over-turns e _ (c .before .before .before .before .before .before .before .before .before .before .before .before .before .before .before .before .before .before .before .before .before .before .before .before .before .before .args .rec .now) _ _ buf _ (c .over3 .ensures .0) (c .over3 .ensures .1) (c .before .before .before .before .before .tick-over .ensures .0 e buf)))), (front-then (front-of (c .before .before .before .before .before .before .before .before .before .before .before .before .before .before .before .before .before .before .before .before .before .before .before .before .before .before .pre) (c .before .before .before .before .before .before .before .before .before .before .before .before .before .before .interrupt-read .ensures (arrivalAt BusOp.ReadInterrupt [] (sessionIn (c .before .before .before .before .before .before .before .before .before .before .before .before .before .before .before .before .before .before .before .before .before .before .before .before .before .before .args .s .now) .st .sdpcm)))) (c .before .before .before .before .before .tick-over .ensures .1), λ t. absurd (true≢false (sym t ∙ c .over3 .ensures .0))))
 
 -- src/lib.rt:200:1
 same-length-7 : tie.Need-same-length-7
@@ -132,11 +168,12 @@ same-length-7 c = search needs
 
 -- src/lib.rt:200:1
 same-length-8 : tie.Need-same-length-8
-same-length-8 c = ?
+same-length-8 c = log-kept (c .before .before .before .before .before .before .before .before)
 
 -- src/lib.rt:200:1
 returns-5 : tie.Need-returns-5
-returns-5 c = ?
+unfolding callTree callOp pollOp pointBy NextBy
+returns-5 c = (λ e buf. law.asked-value BusOp.ReadInterrupt (c .before .before .before .before .before .before .before .before .before .before .before .before .before .before .before .ask-interrupt .result) (c .before .before .before .before .before .before .before .before .before .before .before .before .before .before .before .ask-interrupt .ensures buf) e (secretAt to.noArgs (CallPoint.Poll PollPoint.Interrupt)) (λ y. Kc to.noArgs (CallPoint.Poll PollPoint.Interrupt) y (turning.worldIn (c .before .before .before .before .before .before .before .before .before .before .before .before .before .before .before .before .before .before .before .before .args .s .now) buf)) (c .before .before .before .before .before .before .before .before .before .before .before .before .before .before .before .before .before .before .before .before .args .s .now) (λ (x : End). to.Turns e x (c .before .before .before .before .before .before .before .before .before .before .before .before .before .before .before .before .before .before .before .before .args .rec .now) (c .over4 .result) (c .before .before .before .before .before .before .before .before .before .before .before .before .before .before .before .ask-interrupt .last .1 .1 .1 .0) (c .before .before .before .before .before .before .before .before .interrupt-read .last .0) buf) (law.not-back _ (sym (c .before .before .before .before .before .before .before .before .before .before .before .before .is-back .ensures) ∙ c .before .before .before .before .before .before .before .before .before .before .before .if1 .left)) (c .before .before .before .before .before .before .before .before .before .before .if2 .left) (λ y hv i hb. let k = c .before .before .before .before .before .before .before .before .interrupt-read .ensures (arrivalAt BusOp.ReadInterrupt buf (sessionIn (c .before .before .before .before .before .before .before .before .before .before .before .before .before .before .before .before .before .before .before .before .args .s .now) .st .sdpcm)) in rw (← interrupt-steps y buf e (drop (c .before .before .before .before .before .before .before .before .before .before .before .before .before .before .before .ask-interrupt .result .pos) (c .before .before .before .before .before .before .before .before .before .before .before .before .before .before .before .before .before .before .before .before .args .rec .now)) _ (c .before .before .before .before .before .before .before .before .before .before .before .before .before .before .before .ask-interrupt .result .len) (c .before .before .before .before .before .before .before .before .interrupt-read .result) (c .before .before .before .before .before .before .before .before .before .before .before .before .before .before .before .before .before .before .before .before .args .s .now) (c .before .before .before .before .before .before .before .before .before .before .before .before .before .before .before .ask-interrupt .result .value) i hv k) (let g : Gives _ (c .before .before .before .before .before .before .before .before .interrupt-read .result .report) = rw (c .before .before .enum-told3 .given .1) at (k .next) in over-turns e _ (c .before .before .before .before .before .before .before .before .before .before .before .before .before .before .before .before .before .before .before .before .args .rec .now) _ _ buf _ (c .over4 .ensures .0) (c .over4 .ensures .1 ∙ c .before .polled-end .ensures) (gives-ends e _ (c .before .before .before .before .before .before .before .before .interrupt-read .result .report) (drop (c .before .before .before .before .before .before .before .before .before .before .before .before .before .before .before .ask-interrupt .result .pos) (c .before .before .before .before .before .before .before .before .before .before .before .before .before .before .before .before .before .before .before .before .args .rec .now)) (c .before .before .before .before .before .before .before .before .before .before .before .before .before .before .before .ask-interrupt .last .1 .1 .1 .0) (c .before .before .before .before .before .before .before .before .interrupt-read .last .0) buf (c .before .before .before .before .before .before .before .before .before .before .before .before .before .before .before .ask-interrupt .result .len) g))), (front-of (c .before .before .before .before .before .before .before .before .before .before .before .before .before .before .before .before .before .before .before .before .pre) (c .before .before .before .before .before .before .before .before .interrupt-read .ensures (arrivalAt BusOp.ReadInterrupt [] (sessionIn (c .before .before .before .before .before .before .before .before .before .before .before .before .before .before .before .before .before .before .before .before .args .s .now) .st .sdpcm))), λ t. absurd (true≢false (sym t ∙ c .over4 .ensures .0))))
 
 -- src/lib.rt:200:1
 same-length-9 : tie.Need-same-length-9
@@ -144,11 +181,12 @@ same-length-9 c = search needs
 
 -- src/lib.rt:200:1
 same-length-10 : tie.Need-same-length-10
-same-length-10 c = ?
+same-length-10 c = log-kept (c .before .before .before .before .before .before .before .before)
 
 -- src/lib.rt:200:1
 returns-6 : tie.Need-returns-6
-returns-6 c = ?
+unfolding callTree callOp pollOp pointBy NextBy
+returns-6 c = (λ e buf. law.asked-value BusOp.ReadInterrupt (c .before .before .before .before .before .before .before .before .before .before .before .before .before .before .before .ask-interrupt .result) (c .before .before .before .before .before .before .before .before .before .before .before .before .before .before .before .ask-interrupt .ensures buf) e (secretAt to.noArgs (CallPoint.Poll PollPoint.Interrupt)) (λ y. Kc to.noArgs (CallPoint.Poll PollPoint.Interrupt) y (turning.worldIn (c .before .before .before .before .before .before .before .before .before .before .before .before .before .before .before .before .before .before .before .before .args .s .now) buf)) (c .before .before .before .before .before .before .before .before .before .before .before .before .before .before .before .before .before .before .before .before .args .s .now) (λ (x : End). to.Turns e x (c .before .before .before .before .before .before .before .before .before .before .before .before .before .before .before .before .before .before .before .before .args .rec .now) (c .over5 .result) (c .before .before .before .before .before .before .before .before .before .before .before .before .before .before .before .ask-interrupt .last .1 .1 .1 .0) (c .before .before .before .before .before .before .before .before .interrupt-read .last .0) buf) (law.not-back _ (sym (c .before .before .before .before .before .before .before .before .before .before .before .before .is-back .ensures) ∙ c .before .before .before .before .before .before .before .before .before .before .before .if1 .left)) (c .before .before .before .before .before .before .before .before .before .before .if2 .left) (λ y hv i hb. let k = c .before .before .before .before .before .before .before .before .interrupt-read .ensures (arrivalAt BusOp.ReadInterrupt buf (sessionIn (c .before .before .before .before .before .before .before .before .before .before .before .before .before .before .before .before .before .before .before .before .args .s .now) .st .sdpcm)) in rw (← interrupt-steps y buf e (drop (c .before .before .before .before .before .before .before .before .before .before .before .before .before .before .before .ask-interrupt .result .pos) (c .before .before .before .before .before .before .before .before .before .before .before .before .before .before .before .before .before .before .before .before .args .rec .now)) _ (c .before .before .before .before .before .before .before .before .before .before .before .before .before .before .before .ask-interrupt .result .len) (c .before .before .before .before .before .before .before .before .interrupt-read .result) (c .before .before .before .before .before .before .before .before .before .before .before .before .before .before .before .before .before .before .before .before .args .s .now) (c .before .before .before .before .before .before .before .before .before .before .before .before .before .before .before .ask-interrupt .result .value) i hv k) (let g : CallNext.Refused DriverError.EventHeader ≡ _ = rw (c .before .before .enum-told4 .given .1) at (k .next) in rw (← g) (over-turns e _ (c .before .before .before .before .before .before .before .before .before .before .before .before .before .before .before .before .before .before .before .before .args .rec .now) _ _ buf _ (c .over5 .ensures .0) (c .over5 .ensures .1 ∙ c .before .error-end .ensures .0) (law.stopped e DriverError.EventHeader (drop (c .before .before .before .before .before .before .before .before .before .before .before .before .before .before .before .ask-interrupt .result .pos) (c .before .before .before .before .before .before .before .before .before .before .before .before .before .before .before .before .before .before .before .before .args .rec .now)) (c .before .before .before .before .before .before .before .before .before .before .before .before .before .before .before .ask-interrupt .last .1 .1 .1 .0) (c .before .before .before .before .before .before .before .before .interrupt-read .last .0) buf (c .before .before .before .before .before .before .before .before .before .before .before .before .before .before .before .ask-interrupt .result .len) (c .before .error-end .ensures .1))))), (front-of (c .before .before .before .before .before .before .before .before .before .before .before .before .before .before .before .before .before .before .before .before .pre) (c .before .before .before .before .before .before .before .before .interrupt-read .ensures (arrivalAt BusOp.ReadInterrupt [] (sessionIn (c .before .before .before .before .before .before .before .before .before .before .before .before .before .before .before .before .before .before .before .before .args .s .now) .st .sdpcm))), λ t. absurd (true≢false (sym t ∙ c .over5 .ensures .0))))
 
 pub interrupt-turn-spec : {M : Type 1} → statement M
 interrupt-turn-spec =
