@@ -1,12 +1,13 @@
 // What a packet read leaves in the work buffer.
 ghost use mathlib.Core.Path.{_≡_};
-ghost use lib.ListN.{drop};
+ghost use Prim.Native.Nat.{_≤_};
+ghost use lib.ListN.{length, drop};
 ghost use Rattle.slices.specs.Over.{over};
 ghost use Rattle.slices.specs.Le.{bytesOf};
 ghost use Rattle.definition.specs.Device as def;
 
 // Puts the words' bytes from byte n on into buf from index at on.
-fn put_tail(buf: &mut [u8], at: usize, words: &[u32], n: usize)
+fn put_bytes(buf: &mut [u8], at: usize, words: &[u32], n: usize)
     ensures { λ _. ⌜ now (buf .exit) ≡ over (now (buf .entry)) at (drop n (bytesOf (now (words .entry)))) ⌝ }
 {
     let all = 4 * words.len();
@@ -17,6 +18,19 @@ fn put_tail(buf: &mut [u8], at: usize, words: &[u32], n: usize)
         buf[at + i] = words::byte_of(words[j / 4], j % 4);
         i += 1;
     }
+}
+
+// The same; where the last word alone is left, at once.
+fn put_tail(buf: &mut [u8], at: usize, words: &[u32], n: usize)
+    requires { ⌜ 1 ≤ length (now words) ⌝ }
+    ensures { λ _. ⌜ now (buf .exit) ≡ over (now (buf .entry)) at (drop n (bytesOf (now (words .entry)))) ⌝ }
+{
+    let last = words.len() - 1;
+    if n == 4 * last {
+        words::put_le32(buf, at, words[last]);
+        return;
+    }
+    put_bytes(buf, at, words, n);
 }
 
 // Lays the transfer of a read of n bytes, given as its words: from its byte 4 on, then its own bytes past n.

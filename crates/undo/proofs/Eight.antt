@@ -6,6 +6,8 @@ use native.Mathlib.Nat.{suc-add, add-mul-div-left, div-eq-of-lt}
 use native.Mathlib.Omega.{arith}
 use lib.ListN.{length, take, drop, getD}
 use lib.Seq.{drop-drop, take-add}
+use Rattle.slices.specs.Over.{over}
+use Rattle.slices.proofs.Over.{Run, run-none, run-more, length-part}
 use Rattle.undo.specs.Le64.{le64}
 
 -- the elements from index at on, one by one
@@ -73,8 +75,42 @@ le64-sum {a} {b} {c} {d} {e} {f} {g} {h} s at r ha hb hc hd he hf hg hh =
       hh .0,
     )
 
--- eight more
+-- b more
+pub part-more : (s : List ℕ) (from a b : ℕ) → take (a + b) (drop from s) ≡ take a (drop from s) ++ take b (drop (from + a) s)
+part-more s from a b = rw (take-add, drop-drop)
+
+-- a turn's more: of 8 bytes, and of 32
 pub eight-more : (s : List ℕ) (from i : ℕ) → take (8 * (i + 1)) (drop from s) ≡ take (8 * i) (drop from s) ++ take 8 (drop (from + 8 * i) s)
 eight-more s from i =
     let e : 8 * (i + 1) ≡ 8 * i + 8 = omega arith in
-    rw (e, take-add, drop-drop)
+    rw e (part-more s from (8 * i) 8)
+
+pub block-more : (s : List ℕ) (from i : ℕ) → take (32 * (i + 1)) (drop from s) ≡ take (32 * i) (drop from s) ++ take 32 (drop (from + 32 * i) s)
+block-more s from i =
+    let e : 32 * (i + 1) ≡ 32 * i + 32 = omega arith in
+    rw e (part-more s from (32 * i) 32)
+
+-- four times eight are 32
+module _ (s d : List ℕ) (from to : ℕ) (h : from + 32 ≤ length s) where
+  abbrev part : ℕ → List ℕ
+  part k = take 8 (drop (from + k) s)
+
+  pub block-is : {d₁ d₂ d₃ d₄ : List ℕ} → d₁ ≡ over d to (take 8 (drop from s)) → d₂ ≡ over d₁ (to + 8) (part 8) → d₃ ≡ over d₂ (to + 16) (part 16) → d₄ ≡ over d₃ (to + 24) (part 24) → d₄ ≡ over d to (take 32 (drop from s))
+  block-is {d₁} {d₂} {d₃} {d₄} e₁ e₂ e₃ e₄ =
+      let p₂ : take 16 (drop from s) ≡ take 8 (drop from s) ++ part 8 = part-more s from 8 8 in
+      let p₃ : take 24 (drop from s) ≡ take 16 (drop from s) ++ part 16 = part-more s from 16 8 in
+      let p₄ : take 32 (drop from s) ≡ take 24 (drop from s) ++ part 24 = part-more s from 24 8 in
+      let r₁ : Run d to (take 8 (drop from s)) d₁ = run-more (take 8 (drop from s)) run-none (omega arith) e₁ in
+      let r₂ : Run d to (take 16 (drop from s)) d₂ = rw p₂ (run-more (part 8) r₁ (omega (arith, length-part s from 8)) e₂) in
+      let r₃ : Run d to (take 24 (drop from s)) d₃ = rw p₃ (run-more (part 16) r₂ (omega (arith, length-part s from 16)) e₃) in
+      let r₄ : Run d to (take 32 (drop from s)) d₄ = rw p₄ (run-more (part 24) r₃ (omega (arith, length-part s from 24)) e₄) in
+      r₄ .is
+
+-- n times eight are n / 4 blocks, and n % 4 eights
+pub rest-is : (s d : List ℕ) (from to n : ℕ) {d₁ d₂ : List ℕ} → from + 8 * n ≤ length s → d₁ ≡ over d to (take (32 * (n / 4)) (drop from s)) → d₂ ≡ over d₁ (to + 32 * (n / 4)) (take (8 * (n % 4)) (drop (from + 32 * (n / 4)) s)) → d₂ ≡ over d to (take (8 * n) (drop from s))
+rest-is s d from to n {d₁} {d₂} h e₁ e₂ =
+    let k = 32 * (n / 4) in
+    let e : 8 * n ≡ k + 8 * (n % 4) = omega arith in
+    let r₁ : Run d to (take k (drop from s)) d₁ = run-more (take k (drop from s)) run-none (omega arith) e₁ in
+    let r₂ = run-more (take (8 * (n % 4)) (drop (from + k) s)) r₁ (omega (arith, length-part s from k)) e₂ in
+    rw (e, part-more s from k (8 * (n % 4))) (r₂ .is)

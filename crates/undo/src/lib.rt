@@ -105,11 +105,51 @@ fn copy_words(dst: &mut [u8], to: usize, src: &[u8], from: usize, n: usize)
     requires { ⌜ from + 8 * n ≤ length (now src) ⌝ }
     ensures { λ _. ⌜ now (dst .exit) ≡ over (now (dst .entry)) to (take (8 * n) (drop from (now (src .entry)))) ⌝ }
 {
+    let k = n / 4;
+    copy_blocks(dst, to, src, from, k);
+    copy_eights(dst, to + 32 * k, src, from + 32 * k, n % 4);
+}
+
+// The same, one at a time.
+fn copy_eights(dst: &mut [u8], to: usize, src: &[u8], from: usize, n: usize)
+    requires { ⌜ to + 8 * n ≤ length (now dst) ⌝ }
+    requires { ⌜ from + 8 * n ≤ length (now src) ⌝ }
+    ensures { λ _. ⌜ now (dst .exit) ≡ over (now (dst .entry)) to (take (8 * n) (drop from (now (src .entry)))) ⌝ }
+{
     let mut i = 0;
     while i < n {
         put_le64(dst, to + 8 * i, get_le64(src, from + 8 * i));
         i += 1;
     }
+}
+
+// Copies n times 32 bytes.
+fn copy_blocks(dst: &mut [u8], to: usize, src: &[u8], from: usize, n: usize)
+    requires { ⌜ to + 32 * n ≤ length (now dst) ⌝ }
+    requires { ⌜ from + 32 * n ≤ length (now src) ⌝ }
+    ensures { λ _. ⌜ now (dst .exit) ≡ over (now (dst .entry)) to (take (32 * n) (drop from (now (src .entry)))) ⌝ }
+{
+    let mut i = 0;
+    while i < n {
+        copy_block(dst, to + 32 * i, src, from + 32 * i);
+        i += 1;
+    }
+}
+
+// Copies 32 bytes. All are read before any is put: so a compiler moves them in wide pieces.
+fn copy_block(dst: &mut [u8], to: usize, src: &[u8], from: usize)
+    requires { ⌜ to + 32 ≤ length (now dst) ⌝ }
+    requires { ⌜ from + 32 ≤ length (now src) ⌝ }
+    ensures { λ _. ⌜ now (dst .exit) ≡ over (now (dst .entry)) to (take 32 (drop from (now (src .entry)))) ⌝ }
+{
+    let a = get_le64(src, from);
+    let b = get_le64(src, from + 8);
+    let c = get_le64(src, from + 16);
+    let d = get_le64(src, from + 24);
+    put_le64(dst, to, a);
+    put_le64(dst, to + 8, b);
+    put_le64(dst, to + 16, c);
+    put_le64(dst, to + 24, d);
 }
 
 fn wide(b: u8) -> u64

@@ -81,12 +81,7 @@ pub fn byte_of(w: u32, j: usize) -> u8
     requires { ⌜ j < 4 ⌝ }
     ensures { λ r. ⌜ r ≡ getD (le32 w) j 0 ⌝ }
 {
-    match j {
-        0 => (w % 256) as u8,
-        1 => (w / 256 % 256) as u8,
-        2 => (w / 65536 % 256) as u8,
-        _ => (w / 16777216 % 256) as u8,
-    }
+    ((w >> (8 * j as u32)) % 256) as u8
 }
 
 // Puts b into dst at index i.

@@ -1,77 +1,59 @@
--- i times 8 bytes are down.
-use borrow.Author.Needs.{needs}
-use Prim.Native.Nat.{_+_, _*_, _-_, _≤_}
+-- <<
+use Prim.Native.Nat.{_+_, _*_, _/_, _%_}
+use mathlib.Core.Path.{_≡_}
 use native.Mathlib.Omega.{arith}
 use lib.ListN.{take, drop}
-use mathlib.Core.Path.{_≡_}
-use Rattle.slices.proofs.Over.{Run, run-none, run-more, length-part}
-use Rattle.undo.proofs.Eight.{eight-more}
+use Rattle.undo.proofs.Eight.{rest-is}
+-- >>
+use borrow.Author.Needs.{needs}
 use Rattle.undo.proofs.copy_words.Statement.{statement}
 use Rattle.undo.proofs.copy_words.Tie as tie
+use Rattle.undo.proofs.copy_words.Reads as reads
+use Rattle.undo.proofs.copy_words.Lts as lts
+use Rattle.undo.proofs.copy_blocks.Reads as copy-blocks-reads
+use Rattle.undo.proofs.copy_eights.Reads as copy-eights-reads
 
-abbrev Inv-loop : tie.InvT-loop
-Inv-loop dst₀ to src from n i₀ dst i = (i ≤ n) × Run dst₀ to (take (8 * i) (drop from src)) dst
+-- src/lib.rt:109:5
+copy-blocks-requires : tie.Need-copy-blocks-requires
+copy-blocks-requires c κs = search needs
 
-abbrev μ-loop : tie.MeasureT-loop
-μ-loop dst₀ to src from n i₀ dst i = n - i
+-- src/lib.rt:110:27
+mul-copy-eights : tie.Need-mul-copy-eights
+mul-copy-eights c = search needs
 
-loop-holds : tie.Need-loop-holds Inv-loop μ-loop
-loop-holds c = (search needs, run-none)
+-- src/lib.rt:110:22
+add-copy-eights : tie.Need-add-copy-eights
+add-copy-eights c = search needs
 
-mul-put-le64 : tie.Need-mul-put-le64 Inv-loop μ-loop
-mul-put-le64 c = search needs
+-- src/lib.rt:110:47
+mul-copy-eights-2 : tie.Need-mul-copy-eights-2
+mul-copy-eights-2 c = search needs
 
-add-put-le64 : tie.Need-add-put-le64 Inv-loop μ-loop
-add-put-le64 c = search needs
+-- src/lib.rt:110:40
+add-copy-eights-2 : tie.Need-add-copy-eights-2
+add-copy-eights-2 c = search needs
 
-mul-get-le64 : tie.Need-mul-get-le64 Inv-loop μ-loop
-mul-get-le64 c = search needs
+-- src/lib.rt:110:5
+copy-eights-requires : tie.Need-copy-eights-requires
+copy-eights-requires c κs = search needs
 
-add-get-le64 : tie.Need-add-get-le64 Inv-loop μ-loop
-add-get-le64 c = search needs
+-- src/lib.rt:103:1
+same-length : tie.Need-same-length
+same-length c = search needs
 
-get-le64-requires : tie.Need-get-le64-requires Inv-loop μ-loop
-get-le64-requires c κs = search needs
-
-put-le64-requires : tie.Need-put-le64-requires Inv-loop μ-loop
-put-le64-requires c κs = search needs
-
-add-i : tie.Need-add-i Inv-loop μ-loop
-add-i c = search needs
-
-loop-less : tie.Need-loop-less Inv-loop μ-loop
-loop-less c = search needs
-
-loop-again : tie.Need-loop-again Inv-loop μ-loop
-loop-again c =
-    let src = c .before .before .before .before .before .before .before .before .before .args .src .now in
-    let from = c .before .before .before .before .before .before .before .before .before .args .from in
-    let i = c .before .before .before .before .before .before .loop .i in
-    (search needs, rw (eight-more src from i) (run-more (take 8 (drop (from + 8 * i) src)) (c .before .before .before .before .before .before .loop .inv .1) (omega (arith, length-part src from (8 * i))) (rw (c .before .before .before .get-le64 .ensures) at (c .before .before .put-le64 .ensures))))
-
-same-length : tie.Need-same-length Inv-loop μ-loop
-same-length c = c .before .loop .inv .1 .len
-
-returns : tie.Need-returns Inv-loop μ-loop
-returns c =
-    let e : c .before .loop .i ≡ c .before .before .before .before .args .n = omega arith in
-    rw e at (c .before .loop .inv .1 .is)
+-- src/lib.rt:103:1
+returns : tie.Need-returns
+returns c = rest-is (c .before .before .before .before .before .before .before .before .before .before .args .src .now) (c .before .before .before .before .before .before .before .before .before .before .args .dst .now) (c .before .before .before .before .before .before .before .before .before .before .args .from) (c .before .before .before .before .before .before .before .before .before .before .args .to) (c .before .before .before .before .before .before .before .before .before .before .args .n) (c .before .before .before .before .before .before .before .before .before .before .pre .1) (c .before .before .before .before .before .before .copy-blocks .ensures) (c .before .before .copy-eights .ensures)
 
 pub copy-words-spec : {M : Type 1} → statement M
 copy-words-spec =
     tie.close
     (tie.spec
-    Inv-loop
-    μ-loop
-    loop-holds
-    mul-put-le64
-    add-put-le64
-    mul-get-le64
-    add-get-le64
-    get-le64-requires
-    put-le64-requires
-    add-i
-    loop-less
-    loop-again
+    copy-blocks-requires
+    mul-copy-eights
+    add-copy-eights
+    mul-copy-eights-2
+    add-copy-eights-2
+    copy-eights-requires
     same-length
     returns)

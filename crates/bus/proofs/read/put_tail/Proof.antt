@@ -1,92 +1,69 @@
--- i bytes of the tail are down.
-use borrow.Author.Needs.{needs}
-use Prim.Native.Nat.{_+_, _-_, _*_, _≤_, _<_}
-use mathlib.Core.Path.{refl, sym, _∙_}
+-- <<
+use Prim.Native.Nat.{_+_, _*_, _-_}
+use mathlib.Core.Path.{_≡_}
 use native.Mathlib.Omega.{arith}
-use lib.ListN.{length, drop, length-drop}
-use lib.Seq.{getD-drop}
-use Rattle.slices.specs.Le.{bytesOf}
-use Rattle.slices.proofs.Over.{Laid, laid-none, laid-more, laid-fits}
-use Rattle.slices.proofs.Le.{length-bytesOf, getD-bytesOf}
+use lib.ListN.{length}
+use Rattle.bus.proofs.Words.{last-bytes}
+-- >>
+use borrow.Author.Needs.{needs}
 use Rattle.bus.proofs.read.put_tail.Statement.{statement}
 use Rattle.bus.proofs.read.put_tail.Tie as tie
+use Rattle.bus.proofs.read.put_tail.Reads as reads
+use Rattle.bus.proofs.read.put_tail.Lts as lts
+use Rattle.bus.proofs.read.put_bytes.Reads as put-bytes-reads
+use Rattle.words.proofs.put_le32.Reads as put-le32-reads
 
-abbrev Inv-loop : tie.InvT-loop
-Inv-loop buf₀ at words n all count i₀ buf i = (i ≤ count) × Laid buf₀ at (drop n (bytesOf words)) i buf
+-- src/read.rt:28:16
+sub-last : tie.Need-sub-last
+sub-last c = search needs
 
-abbrev μ-loop : tie.MeasureT-loop
-μ-loop buf₀ at words n all count i₀ buf i = count - i
+-- src/read.rt:29:13
+mul-if1 : tie.Need-mul-if1
+mul-if1 c = search needs
 
-mul-all : tie.Need-mul-all Inv-loop μ-loop
-mul-all c = search needs
+-- src/read.rt:30:34
+mul-put-le32 : tie.Need-mul-put-le32
+mul-put-le32 c = search needs
 
-fitting-requires : tie.Need-fitting-requires Inv-loop μ-loop
-fitting-requires c κs = search needs
+-- src/read.rt:30:34
+shared-slice-read-put-le32 : tie.Need-shared-slice-read-put-le32
+shared-slice-read-put-le32 c = search needs
 
-fitting-requires-2 : tie.Need-fitting-requires-2 Inv-loop μ-loop
-fitting-requires-2 c κs = search needs
+-- src/read.rt:30:9
+put-le32-requires : tie.Need-put-le32-requires
+put-le32-requires c κs = search needs
 
-loop-holds : tie.Need-loop-holds Inv-loop μ-loop
-loop-holds c = (search needs, laid-none refl)
+-- src/read.rt:31:9
+same-length : tie.Need-same-length
+same-length c = search needs
 
-add-j : tie.Need-add-j Inv-loop μ-loop
-add-j c = search needs
+-- src/read.rt:31:9
+returns : tie.Need-returns
+returns c = rw (c .before .before .before .before .before .if1 .taken, last-bytes (c .before .before .before .before .before .before .before .before .args .words .now) (length (c .before .before .before .before .before .before .before .before .args .words .now) - 1) (omega arith)) (c .before .before .put-le32 .ensures)
 
-mul-byte-of : tie.Need-mul-byte-of Inv-loop μ-loop
-mul-byte-of c = search needs
+-- src/read.rt:33:5
+put-bytes-requires : tie.Need-put-bytes-requires
+put-bytes-requires c κs = search needs
 
-shared-slice-read-byte-of : tie.Need-shared-slice-read-byte-of Inv-loop μ-loop
-shared-slice-read-byte-of c = search needs
+-- src/read.rt:24:1
+same-length-2 : tie.Need-same-length-2
+same-length-2 c = search needs
 
-byte-of-requires : tie.Need-byte-of-requires Inv-loop μ-loop
-byte-of-requires c κs = search needs
-
-add-buf : tie.Need-add-buf Inv-loop μ-loop
-add-buf c = search needs
-
-slice-write-buf : tie.Need-slice-write-buf Inv-loop μ-loop
-slice-write-buf c = search needs
-
-add-i : tie.Need-add-i Inv-loop μ-loop
-add-i c = search needs
-
-loop-less : tie.Need-loop-less Inv-loop μ-loop
-loop-less c = search needs
-
-loop-again : tie.Need-loop-again Inv-loop μ-loop
-loop-again c =
-    let ws = c .before .before .before .before .before .before .before .before .args .words .now in
-    let n = c .before .before .before .before .before .before .before .before .args .n in
-    let i = c .before .before .before .loop .i in
-    let h : n + i < 4 * length ws = omega arith in
-    (search needs, laid-more 0 (c .before .before .before .loop .inv .1) (omega (arith, length-drop n (bytesOf ws), length-bytesOf ws)) refl refl (c .byte-of .ensures ∙ sym (getD-drop n (bytesOf ws) i 0 ∙ getD-bytesOf ws (n + i) h)))
-
-same-length : tie.Need-same-length Inv-loop μ-loop
-same-length c = c .before .loop .inv .1 .len
-
-returns : tie.Need-returns Inv-loop μ-loop
-returns c =
-    let ws = c .before .before .before .before .before .before .args .words .now in
-    laid-fits (c .before .loop .inv .1) (omega (arith, length-drop (c .before .before .before .before .before .before .args .n) (bytesOf ws), length-bytesOf ws))
+-- src/read.rt:24:1
+returns-2 : tie.Need-returns-2
+returns-2 c = search needs
 
 pub put-tail-spec : {M : Type 1} → statement M
 put-tail-spec =
     tie.close
     (tie.spec
-    Inv-loop
-    μ-loop
-    mul-all
-    fitting-requires
-    fitting-requires-2
-    loop-holds
-    add-j
-    mul-byte-of
-    shared-slice-read-byte-of
-    byte-of-requires
-    add-buf
-    slice-write-buf
-    add-i
-    loop-less
-    loop-again
+    sub-last
+    mul-if1
+    mul-put-le32
+    shared-slice-read-put-le32
+    put-le32-requires
     same-length
-    returns)
+    returns
+    put-bytes-requires
+    same-length-2
+    returns-2)
