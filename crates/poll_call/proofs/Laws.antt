@@ -40,7 +40,7 @@ use Rattle.going.specs.Onward.{go}
 use Rattle.going.proofs.Going.{go-unroll}
 use Rattle.undo.specs.Undo.{Kept, backSession}
 use Rattle.polls.specs.declared.PollNow.{PollNow}
-use Rattle.polls.specs.Polls.{Gives, NextIs, Quiet, Quiets, Reports, Stepped, listed}
+use Rattle.polls.specs.Polls.{Gives, NextIs, Quiet, Quiets, Reports, Stepped, firstPoint, listed}
 use Rattle.polls.proofs.Laws.{front-kept}
 use Rattle.run_end.specs.RunEnd as ending
 use Rattle.turning.specs.Turning as turning
@@ -104,26 +104,33 @@ module _ (p : PollAt) (y : Ans) (b₀ buf : Bytes) (i : InRange (pollOp (pointOf
       step-tree q y (sessionIn b .st) b₀ buf (sessionIn b .list) (refuses (sessionIn b .st) false Before.None (DriverError.Fault v)) i hb (rw (← hv) refl) refl e ws log len
 
 module _ (y : Ans) (buf : Bytes) (e : World) (ws log : List ℕ) (len : ℕ) where
-  abbrev at-interrupt : CallPoint
-  at-interrupt = CallPoint.Poll PollPoint.Interrupt
+  abbrev at-first : Bool → CallPoint
+  at-first m = CallPoint.Poll (firstPoint m)
 
-  abbrev quiet : State → Arrival
-  quiet st = arrivalAt BusOp.ReadInterrupt buf (st .sdpcm)
+  abbrev quiet : Bool → State → Arrival
+  quiet m st = arrivalAt (pollOp (firstPoint m)) buf (st .sdpcm)
 
-  abbrev interrupted : List ℕ → ℕ → CallStep
-  interrupted b v = pollPoint (sessionIn b .st) PollPoint.Interrupt (BusAnswer.Value v) (quiet (sessionIn b .st))
+  abbrev first-step : Bool → List ℕ → ℕ → CallStep
+  first-step m b v = pollPoint (sessionIn b .st) (firstPoint m) (BusAnswer.Value v) (quiet m (sessionIn b .st))
 
-  pub interrupt-steps : (r : PollNow) (b : List ℕ) {d : List ℕ} (v : ℕ) → InRange BusOp.ReadInterrupt y → BusAnswer.Value v ≡ told y → Quiets b d r (interrupted b v)
-      → go e ws log len (callTree to.noArgs (interrupted b v .next) (turning.worldIn d buf)) ≡ go e ws log len (Kc to.noArgs at-interrupt y (turning.worldIn b buf))
-  unfolding callOp callAnswer landing listAt listHeard pollOp
-  interrupt-steps r b v i hv k =
+  -- it lands nothing
+  first-lands : (m : Bool) → buf ≡ landing (pollOp (firstPoint m)) y buf
+  unfolding firstPoint pollOp landing
+  first-lands true = refl
+  first-lands false = refl
+
+  pub first-steps : (m : Bool) (r : PollNow) (b : List ℕ) {d : List ℕ} (v : ℕ) → InRange (pollOp (firstPoint m)) y → BusAnswer.Value v ≡ told y → Quiets b d r (first-step m b v)
+      → go e ws log len (callTree to.noArgs (first-step m b v .next) (turning.worldIn d buf)) ≡ go e ws log len (Kc to.noArgs (at-first m) y (turning.worldIn b buf))
+  unfolding callOp callAnswer listAt listHeard
+  first-steps m r b v i hv k =
       rw (k .held .back) (
-      rw (k .heard, k .clear) at (step-tree at-interrupt y (sessionIn b .st) buf buf (sessionIn b .list) (interrupted b v) i refl (rw hv refl) (k .lay) e ws log len)
+      rw (k .heard, k .clear) at (step-tree (at-first m) y (sessionIn b .st) buf buf (sessionIn b .list) (first-step m b v) i (first-lands m) (rw hv refl) (k .lay) e ws log len)
       )
 
-  pub interrupt-faults : (b : List ℕ) (v : ℕ) → InRange BusOp.ReadInterrupt y → BusAnswer.Fault v ≡ told y → go e ws log len (stop (DriverError.Fault v) (turning.worldIn b buf)) ≡ go e ws log len (Kc to.noArgs at-interrupt y (turning.worldIn b buf))
-  unfolding landing pollOp pointBy
-  interrupt-faults b v i hv = poll-faults to.interrupt y buf buf i refl e ws log len b v hv
+  pub first-faults : (m : Bool) (b : List ℕ) (v : ℕ) → InRange (pollOp (firstPoint m)) y → BusAnswer.Fault v ≡ told y → go e ws log len (stop (DriverError.Fault v) (turning.worldIn b buf)) ≡ go e ws log len (Kc to.noArgs (at-first m) y (turning.worldIn b buf))
+  unfolding callOp callAnswer callTree pollPoint pollAnswer nextStep listAt listHeard
+  first-faults m b v i hv =
+      step-tree (at-first m) y (sessionIn b .st) buf buf (sessionIn b .list) (refuses (sessionIn b .st) false Before.None (DriverError.Fault v)) i (first-lands m) (rw (← hv) refl) refl e ws log len
 
 module _ (started : ℕ) (y : Ans) (buf : Bytes) (e : World) (ws log : List ℕ) (len : ℕ) where
   abbrev at-tick : CallPoint

@@ -17,7 +17,6 @@ use Rattle.jobs.specs.Jobs.{noJob}
 use Rattle.session_bytes.specs.Session.{isSession}
 use Rattle.receive.specs.Receive.{pointOf}
 use Rattle.receive.specs.declared.polled.PollAt.{PollAt}
-use Rattle.receive.specs.declared.polled.PollKind.{PollKind}
 use Rattle.going.specs.Onward.{go}
 use Rattle.undo.specs.Undo.{Kept, backSession}
 use Rattle.asking.specs.declared.Asked.{Asked}
@@ -36,9 +35,6 @@ pub record Front (b d : List ℕ) : Type 0 where
 
 abbrev pub asksAt : PollAt → CallNext
 asksAt p = CallNext.Ask (CallPoint.Poll (pointOf p))
-
-abbrev pub interrupt : PollAt
-interrupt = record { kind = PollKind.Interrupt; n = 0 }
 
 -- the run goes on to x, or came to it
 abbrev pub TurnsBy : World → End → List ℕ → PollTurned → List ℕ → List ℕ → Bytes → Bool → Type 0

@@ -1,15 +1,16 @@
 // `poll` over its recording, on a session's bytes.
 use asking::Asked;
 use asking::ask_interrupt;
+use asking::ask_status;
 use asking::ask_tick;
+use places::read::sdpcm_at;
 use polls::NowKind;
 use polls::PollNow;
-use polls::interrupt_read;
+use polls::first_read;
 use polls::poll_answer;
 use polls::poll_tick;
 use receive::polled::PollAt;
 use receive::polled::PollKind;
-use receive::polled::poll_from;
 use run_end::RunEnd;
 use run_end::done_end;
 use run_end::error_end;
@@ -37,7 +38,8 @@ ghost use Rattle.session_bytes.specs.Session.{isSession, sessionIn};
 ghost use Rattle.receive.specs.Receive.{pointOf};
 ghost use Rattle.going.specs.Onward.{go};
 ghost use Rattle.undo.specs.Undo.{Kept, backSession, backBuf};
-ghost use Rattle.polls.specs.Polls.{NextIs};
+ghost use Rattle.asking.specs.Asking.{Asks};
+ghost use Rattle.polls.specs.Polls.{NextIs, firstPoint};
 ghost use Rattle.turning.specs.Turning as turning;
 ghost use Rattle.poll_call.specs.PollCall as to;
 
@@ -196,22 +198,32 @@ pub fn poll_turn(
     poll_asked(p, a, s, undo, rec, log, buf)
 }
 
-// A poll begins with the interrupt, and one with nothing ends there. What follows is as in `poll_now`, which has one caller so that the
-// loop holds it inline.
-fn interrupt_turn(s: &mut [u8], rec: &[u32], log: &mut [u32]) -> PollTurned
+// A poll's first operation; marked: an earlier packet was good.
+fn first_ask(marked: bool, rec: &[u32], log: &mut [u32]) -> Asked
+    ensures { λ r. ⌜ ((b : Bytes) → Asks (pollOp (firstPoint marked)) (now (rec .entry)) (now (log .entry)) (now (log .exit)) 0 0 b b r) ⌝ }
+{
+    if marked {
+        return ask_status(0, 0, rec, log);
+    }
+    ask_interrupt(0, 0, rec, log)
+}
+
+// The first operation stands before the loop: a poll with nothing ends there. What follows is as in `poll_now`, which has one caller so
+// that the loop holds it inline.
+fn first_turn(marked: bool, s: &mut [u8], rec: &[u32], log: &mut [u32]) -> PollTurned
     requires { ⌜ isSession (now s) ≡ true ⌝ }
-    ensures on { λ r. ⌜ ((e : World) (buf : Bytes) → to.Turns e (go e (drop 0 (now (rec .entry))) (now (log .entry)) 0 (callTree to.noArgs (to.asksAt to.interrupt) (turning.worldIn (now (s .entry)) buf))) (now (rec .entry)) r (now (log .exit)) (now (s .exit)) buf) ⌝ }
+    ensures on { λ r. ⌜ ((e : World) (buf : Bytes) → to.Turns e (go e (drop 0 (now (rec .entry))) (now (log .entry)) 0 (callTree to.noArgs (next.CallNext.Ask (point.CallPoint.Poll (firstPoint marked))) (turning.worldIn (now (s .entry)) buf))) (now (rec .entry)) r (now (log .exit)) (now (s .exit)) buf) ⌝ }
     ensures held { λ _. ⌜ to.Front (now (s .entry)) (now (s .exit)) ⌝ }
     ensures grew { λ r. ⌜ (r .on ≡ true → r .end .len ≤ length (now (log .entry))) ⌝ }
 {
-    let a = ask_interrupt(0, 0, rec, log);
+    let a = first_ask(marked, rec, log);
     if is_back(a) {
         return over(back_end(a));
     }
     if a.fault {
         return over(fault_end(a.value, a.len));
     }
-    let n = interrupt_read(s, a.value);
+    let n = first_read(marked, s, a.value);
     let k = n.kind;
     let p = n.at;
     let report = n.report;
@@ -220,24 +232,6 @@ fn interrupt_turn(s: &mut [u8], rec: &[u32], log: &mut [u32]) -> PollTurned
         NowKind::Tick => over(tick_over(n.started, a.pos, a.len, s, rec, log)),
         NowKind::Over => over(polled_end(report, a.len)),
         NowKind::HeaderBeyond => over(error_end(DriverError::EventHeader, a.len)),
-    }
-}
-
-// The first operation is done where it is the interrupt's.
-fn first_turn(p: PollAt, s: &mut [u8], rec: &[u32], log: &mut [u32]) -> PollTurned
-    requires { ⌜ isSession (now s) ≡ true ⌝ }
-    ensures on { λ r. ⌜ ((e : World) (buf : Bytes) → to.Turns e (go e (drop 0 (now (rec .entry))) (now (log .entry)) 0 (callTree to.noArgs (to.asksAt p) (turning.worldIn (now (s .entry)) buf))) (now (rec .entry)) r (now (log .exit)) (now (s .exit)) buf) ⌝ }
-    ensures held { λ _. ⌜ to.Front (now (s .entry)) (now (s .exit)) ⌝ }
-    ensures grew { λ r. ⌜ (r .on ≡ true → r .end .len ≤ length (now (log .entry))) ⌝ }
-{
-    let k = p.kind;
-    match k {
-        PollKind::Interrupt => interrupt_turn(s, rec, log),
-        PollKind::Acknowledge => onward(p, 0, 0),
-        PollKind::Status => onward(p, 0, 0),
-        PollKind::Waited => onward(p, 0, 0),
-        PollKind::FrameControl => onward(p, 0, 0),
-        PollKind::Packet => onward(p, 0, 0),
     }
 }
 
@@ -283,6 +277,7 @@ pub fn poll_run(
     ensures held { λ _. ⌜ isSession (now (s .exit)) ≡ true ⌝ }
     ensures kept { λ _. ⌜ turning.KeptAll (now (undo .entry)) (now (undo .exit)) (now (s .entry)) (now (s .exit)) (now (buf .entry)) (now (buf .exit)) ⌝ }
 {
-    let t = first_turn(poll_from(s), s, rec, log);
+    let sdpcm = sdpcm_at(s);
+    let t = first_turn(sdpcm.had_successful_packet, s, rec, log);
     poll_on(t, s, undo, rec, log, buf)
 }

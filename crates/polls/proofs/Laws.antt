@@ -3,7 +3,9 @@ use Prim.Native.Nat.{ℕ, _%_}
 use mathlib.Core.Path.{_≡_, refl, sym, ap, _∙_}
 use mathlib.Core.Bool.{Bool, true, false}
 use mathlib.Core.List.{List}
-use borrow.Author.Tests.{ne-eqb}
+use lib.Bits.{bitAnd}
+use lib.Dec.{eqb}
+use borrow.Author.Tests.{eq-eqb, ne-eqb}
 use Rattle.wlan.specs.declared.AsyncEvent.{AsyncEvent}
 use Rattle.wlan.specs.declared.BusAnswer.{BusAnswer}
 use Rattle.wlan.specs.declared.DriverError.{DriverError}
@@ -11,7 +13,8 @@ use Rattle.wlan.specs.declared.WlanPollResult.{WlanPollResult}
 use Rattle.wlan.specs.declared.State.{State}
 use Rattle.device.specs.declared.Arrival.{Arrival}
 use Rattle.device.specs.declared.PollPoint.{PollPoint}
-use Rattle.device.specs.Poll.{pollAnswer, valuedStep, interruptStep}
+use Rattle.definition.specs.Device.{pending, unreadable}
+use Rattle.device.specs.Poll.{pollAnswer, valuedStep, interruptStep, readStep, statusStep}
 use Rattle.handling.specs.Handle.{handledOf, listHeard}
 use Rattle.control.specs.declared.Before.{Before}
 use Rattle.control.specs.declared.CallNext.{CallNext}
@@ -35,7 +38,7 @@ use Rattle.run_end.specs.declared.PollReport.{PollReport}
 use Rattle.run_end.specs.RunEnd.{reportOf}
 use Rattle.polls.specs.declared.NowKind.{NowKind}
 use Rattle.polls.specs.declared.PollNow.{PollNow}
-use Rattle.polls.specs.Polls.{Gives, NextBy, NextIs, Quiet, Quiets, Reports, Stepped}
+use Rattle.polls.specs.Polls.{Gives, NextBy, NextIs, Quiet, Quiets, Reports, Stepped, unmarked}
 
 -- ---- where a poll stands
 
@@ -72,6 +75,31 @@ pub acknowledges : (r : PollNow) (b : List ℕ) (v : ℕ) (a : Arrival) → isSe
     → Quiets b b r (to.pollPoint (sessionIn b .st) PollPoint.Interrupt (BusAnswer.Value v) a)
 unfolding to.pollPoint to.nextStep pollAnswer valuedStep interruptStep
 acknowledges r b v a k h n = rw (ne-eqb (v % 65536) 0 h) (still k n refl)
+
+-- the first status
+module _ (b : List ℕ) (v : ℕ) (a : Arrival) where
+  abbrev word : ℕ
+  word = v % 4294967296
+
+  abbrev first : CallStep
+  first = to.pollPoint (sessionIn b .st) (PollPoint.Status 999) (BusAnswer.Value v) a
+
+  pub status-waits : (r : PollNow) → isSession b ≡ true → word ≡ 0xffffffff → NextIs r (CallNext.Ask (CallPoint.Poll (PollPoint.Waited 999))) → Quiets b b r first
+  unfolding to.pollPoint to.nextStep pollAnswer valuedStep readStep
+  status-waits r k e n = rw (eq-eqb word 0xffffffff e) (still k n refl)
+
+  module _ (x : word ≡ 0xffffffff → ⊥) where
+    pub status-unreadable : (r : PollNow) → isSession b ≡ true → eqb (bitAnd word 0x100) 0 ≡ false → unreadable word ≡ true → NextIs r (CallNext.Ask (CallPoint.Poll PollPoint.FrameControl)) → Quiets b b r first
+    unfolding to.pollPoint to.nextStep pollAnswer valuedStep readStep statusStep
+    status-unreadable r k p u n = rw (ne-eqb word 0xffffffff x, p, u) (still k n refl)
+
+    pub status-packet : (r : PollNow) → isSession b ≡ true → eqb (bitAnd word 0x100) 0 ≡ false → unreadable word ≡ false → NextIs r (CallNext.Ask (CallPoint.Poll (PollPoint.Packet (pending word)))) → Quiets b b r first
+    unfolding to.pollPoint to.nextStep pollAnswer valuedStep readStep statusStep
+    status-packet r k p u n = rw (ne-eqb word 0xffffffff x, p, u) (still k n refl)
+
+    pub status-none : {d : List ℕ} (r : PollNow) → eqb (bitAnd word 0x100) 0 ≡ true → Quiets b d r (to.nothingStep (unmarked (sessionIn b .st))) → Quiets b d r first
+    unfolding to.pollPoint to.nextStep to.packetStep pollAnswer valuedStep readStep statusStep
+    status-none r p q = rw (ne-eqb word 0xffffffff x, p) q
 
 -- the poll's report, as where it stands
 pub over-now : {b d : List ℕ} {v : PollReport} {s : CallStep} (r : PollNow) → r .kind ≡ NowKind.Over → r .report ≡ v → Reports b d v s → Quiets b d r s

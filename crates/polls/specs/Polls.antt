@@ -5,6 +5,10 @@ use mathlib.Core.Bool.{Bool, false}
 use mathlib.Core.List.{List}
 use Rattle.wlan.specs.declared.AsyncEvent.{AsyncEvent}
 use Rattle.wlan.specs.declared.DriverError.{DriverError}
+use Rattle.slices.specs.Pick.{pick}
+use Rattle.wlan.specs.State.{withSdpcm, setMark}
+use Rattle.wlan.specs.declared.State.{State}
+use Rattle.device.specs.declared.PollPoint.{PollPoint}
 use Rattle.control.specs.declared.Before.{Before}
 use Rattle.control.specs.declared.CallNext.{CallNext}
 use Rattle.control.specs.declared.CallPoint.{CallPoint}
@@ -21,6 +25,13 @@ use Rattle.run_end.specs.declared.PollReport.{PollReport}
 use Rattle.run_end.specs.RunEnd.{reportOf}
 use Rattle.polls.specs.declared.NowKind.{NowKind}
 use Rattle.polls.specs.declared.PollNow.{PollNow}
+
+-- a poll's first operation, by the good-packet mark
+unfoldable pub firstPoint : Bool → PollPoint
+firstPoint m = pick m (PollPoint.Status 999) PollPoint.Interrupt
+
+abbrev pub unmarked : State → State
+unmarked s = withSdpcm s (setMark (s .sdpcm) false)
 
 -- the poll is over, and reports v
 unfoldable pub Gives : CallNext → PollReport → Type 0

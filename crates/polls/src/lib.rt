@@ -3,11 +3,13 @@ use arriving::handle_async_event;
 use handling::link::released;
 use places::read::failure_at;
 use places::read::link_at;
+use places::read::sdpcm_at;
 use places::read::tick_at;
 use places::read::wifi_at;
 use places::write::put_failure;
 use places::write::put_frame;
 use places::write::put_link;
+use places::write::put_sdpcm;
 use receive::polled::PollAt;
 use receive::polled::PollKind;
 use receive::polled::Polled;
@@ -18,12 +20,16 @@ use receive::stored::store_reply;
 use run_end::PollReport;
 use run_end::failed_join;
 use run_end::unfailed;
+use sdpcm::status::has_packet;
+use sdpcm::status::pending;
+use sdpcm::status::unreadable;
 use send::elapsed_us;
 use wlan::ConnectFailure;
 use wlan::PendingBuf;
 use wlan::PendingRx;
 use wlan::StartedTick;
 use wlan::WifiState;
+use wlan::setters::set_mark;
 ghost use mathlib.Core.Path.{_≡_};
 ghost use mathlib.Core.Bool.{Bool, true};
 ghost use lib.ListN.{length};
@@ -195,7 +201,7 @@ fn polled(s: &mut [u8], undo: &mut [u8], buf: &[u8], r: Polled) -> PollNow
 }
 
 // The interrupt was read.
-pub fn interrupt_read(s: &mut [u8], v: u64) -> PollNow
+fn interrupt_read(s: &mut [u8], v: u64) -> PollNow
     requires { ⌜ isSession (now s) ≡ true ⌝ }
     ensures { λ r. ⌜ ((a : Arrival) → at.Quiets (now (s .entry)) (now (s .exit)) r (to.pollPoint (sessionIn (now (s .entry)) .st) point.PollPoint.Interrupt (BusAnswer.Value v) a)) ⌝ }
 {
@@ -207,6 +213,53 @@ pub fn interrupt_read(s: &mut [u8], v: u64) -> PollNow
         kind: PollKind::Acknowledge,
         n: i,
     })
+}
+
+// No packet is there; the mark is cleared.
+fn unmarked(s: &mut [u8]) -> PollNow
+    requires { ⌜ isSession (now s) ≡ true ⌝ }
+    ensures { λ r. ⌜ at.Quiets (now (s .entry)) (now (s .exit)) r (to.nothingStep (at.unmarked (sessionIn (now (s .entry)) .st))) ⌝ }
+{
+    put_sdpcm(s, set_mark(sdpcm_at(s), false));
+    nothing(s)
+}
+
+// The status was read, for the first time.
+fn status_read(s: &mut [u8], v: u64) -> PollNow
+    requires { ⌜ isSession (now s) ≡ true ⌝ }
+    ensures { λ r. ⌜ ((a : Arrival) → at.Quiets (now (s .entry)) (now (s .exit)) r (to.pollPoint (sessionIn (now (s .entry)) .st) (point.PollPoint.Status 999) (BusAnswer.Value v) a)) ⌝ }
+{
+    let w = (v % 4294967296) as u32;
+    if w == 0xffff_ffff {
+        return asks(PollAt {
+            kind: PollKind::Waited,
+            n: 999,
+        });
+    }
+    if has_packet(w) {
+        if unreadable(w) {
+            return asks(PollAt {
+                kind: PollKind::FrameControl,
+                n: 0,
+            });
+        }
+        return asks(PollAt {
+            kind: PollKind::Packet,
+            n: pending(w),
+        });
+    }
+    unmarked(s)
+}
+
+// A poll's first answer; marked: an earlier packet was good, and the status was asked for.
+pub fn first_read(marked: bool, s: &mut [u8], v: u64) -> PollNow
+    requires { ⌜ isSession (now s) ≡ true ⌝ }
+    ensures { λ r. ⌜ ((a : Arrival) → at.Quiets (now (s .entry)) (now (s .exit)) r (to.pollPoint (sessionIn (now (s .entry)) .st) (at.firstPoint marked) (BusAnswer.Value v) a)) ⌝ }
+{
+    if marked {
+        return status_read(s, v);
+    }
+    interrupt_read(s, v)
 }
 
 // The value of an answer to the operation at p.
