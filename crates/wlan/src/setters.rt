@@ -41,35 +41,11 @@ pub fn fresh() -> State
     }
 }
 
-pub fn with_sdpcm(s: State, x: Sdpcm) -> State
-    ensures { λ r. ⌜ r ≡ to.withSdpcm s x ⌝ }
-{
-    let mut t = s;
-    t.sdpcm = x;
-    t
-}
-
 pub fn with_pending(s: State, x: Pending) -> State
     ensures { λ r. ⌜ r ≡ to.withPending s x ⌝ }
 {
     let mut t = s;
     t.pending = x;
-    t
-}
-
-pub fn with_scan(s: State, x: ScanMarks) -> State
-    ensures { λ r. ⌜ r ≡ to.withScan s x ⌝ }
-{
-    let mut t = s;
-    t.scan = x;
-    t
-}
-
-pub fn with_link(s: State, x: Link) -> State
-    ensures { λ r. ⌜ r ≡ to.withLink s x ⌝ }
-{
-    let mut t = s;
-    t.link = x;
     t
 }
 
@@ -113,16 +89,6 @@ pub fn set_mark(s: Sdpcm, b: bool) -> Sdpcm
     t
 }
 
-pub fn set_reply(p: Pending, x: PendingResp) -> Pending
-    ensures { λ r. ⌜ r ≡ to.setReply p x ⌝ }
-{
-    let rx = p.rx;
-    Pending {
-        ioctl_resp: x,
-        rx: rx,
-    }
-}
-
 pub fn set_frame(p: Pending, x: PendingRx) -> Pending
     ensures { λ r. ⌜ r ≡ to.setFrame p x ⌝ }
 {
@@ -152,20 +118,6 @@ pub fn set_failure(l: Link, f: ConnectFailure) -> Link
 {
     let s = l.state;
     let a = l.current_auth;
-    let t = l.disconnect_started_tick;
-    Link {
-        state: s,
-        connect_failure: f,
-        current_auth: a,
-        disconnect_started_tick: t,
-    }
-}
-
-pub fn set_auth(l: Link, a: WifiAuth) -> Link
-    ensures { λ r. ⌜ r ≡ to.setAuth l a ⌝ }
-{
-    let s = l.state;
-    let f = l.connect_failure;
     let t = l.disconnect_started_tick;
     Link {
         state: s,
