@@ -81,19 +81,19 @@ module _ (b : Bytes) (s : Sdpcm) where
   pub credits-by : (d : ℕ) → channelIn b < 3 → d ≡ creditStep (s .«last_bus_data_credit») (creditIn b) → leb d 20 ≡ credits b s
   credits-by d p e = simp (lt-ltb _ _ p, e)
 
-  pub accepted-not : (f : ℕ) (t : Sdpcm) → credits b s ≡ false → f ≡ flowIn b → t ≡ setFlow s f → t ≡ accepted b s
+  pub accepted-not : (t : Sdpcm) → credits b s ≡ false → t ≡ setFlow s (flowIn b) → t ≡ accepted b s
   unfolding accepted
-  accepted-not f t p e d = d ∙ simp (p, e)
+  accepted-not t p d = d ∙ simp p
 
-  pub accepted-is : (f n : ℕ) (t u : Sdpcm) → credits b s ≡ true → f ≡ flowIn b → t ≡ setFlow s f → n ≡ creditIn b → u ≡ setCredit t n → u ≡ accepted b s
+  pub accepted-is : (t u : Sdpcm) → credits b s ≡ true → t ≡ setFlow s (flowIn b) → u ≡ setCredit t (creditIn b) → u ≡ accepted b s
   unfolding accepted
-  accepted-is f n t u p e d g h = h ∙ simp (p, d, e, g)
+  accepted-is t u p d h = h ∙ simp (p, d)
 
 module _ (came : ℕ) (b : Bytes) (s : Sdpcm) where
-  pub process-not : isPacket b ≡ false → record { sdpcm = s; received = Received.Packet SdpcmPacket.None } ≡ processRx came b s
+  pub process-not : (r : Received) → isPacket b ≡ false → r ≡ Received.Packet SdpcmPacket.None → record { sdpcm = s; received = r } ≡ processRx came b s
   unfolding processRx
-  process-not p = simp p
+  process-not r p q = simp (p, q)
 
-  pub process-is : (size channel h : ℕ) (next : Sdpcm) (r : Received) → isPacket b ≡ true → next ≡ accepted b s → size ≡ sizeIn b → channel ≡ channelIn b → h ≡ headerLengthIn b → r ≡ payloadOf (take size b) size channel h (s .«requested_ioctl_id») → record { sdpcm = next; received = r } ≡ processRx came b s
+  pub process-is : (size channel : ℕ) (next : Sdpcm) (r : Received) → isPacket b ≡ true → next ≡ accepted b s → size ≡ sizeIn b → channel ≡ channelIn b → r ≡ payloadOf (take size b) size channel (headerLengthIn b) (s .«requested_ioctl_id») → record { sdpcm = next; received = r } ≡ processRx came b s
   unfolding processRx
-  process-is size channel h next r p d e f g q = simp (p, d, q, e, f, g)
+  process-is size channel next r p d e f q = simp (p, d, q, e, f)
