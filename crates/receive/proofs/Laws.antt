@@ -1,4 +1,4 @@
--- The event that a poll brought is the one in the work buffer; an answer that leaves the session as it is.
+-- The event that a poll brought is the one in the work buffer; an answer that leaves the session as it is, and a packet that came.
 use mathlib.Core.Path.{_≡_, refl, ap, sym, _∙_}
 use mathlib.Core.Bool.{true, Bool, false, _||_, true≢false}
 use mathlib.Core.List.{List}
@@ -35,11 +35,8 @@ polled-tells s p (BusAnswer.Fault place) b = tt
 pub still : {b : List ℕ} {r : Polled} (f : PollStep) → isSession b ≡ true → step (sessionIn b .st .sdpcm) (nextOf r) ≡ f → Polls b b r f
 still {b} {r} f h e = rw (← e) (record { next = refl; held = record { known = h; back = refl } })
 
-pub changed : {b d : List ℕ} {r : Polled} {t : Sdpcm} (f : PollStep) → Holds d (sdpcmPut b t) → step t (nextOf r) ≡ f → Polls b d r f
-changed {b} {d} {r} {t} f h e = rw (← e) (record { next = refl; held = h })
-
 pub processed : {b d : List ℕ} {r : Polled} (x : Processed) (y : RxPacket) → Holds d (sdpcmPut b (x .sdpcm)) → ((s : Sdpcm) → step s (nextOf r) ≡ gotStep s (receivedOf (x .packet))) → rxOf x ≡ y → Polls b d r (receivedStep y)
-processed x y h k e = rw (← e) (changed _ h (k (x .sdpcm)))
+processed x y h k e = rw (← e, ← k (x .sdpcm)) (record { next = refl; held = h })
 
 pub came-is : (k : PacketKind) (offset len : ℕ) (status : ℤ) (interface : Interface) (s : Sdpcm) → step s (nextOf (cameBy (polledKind k) offset len status interface)) ≡ gotStep s (receivedOf (record { kind = k; offset = offset; len = len; status = status; interface = interface }))
 unfolding nextBy polledKind gotStep receivedBy
