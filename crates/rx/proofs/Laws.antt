@@ -1,7 +1,7 @@
 -- The definitions of `Packet`, case by case: what each `return` cites.
 use Prim.Native.Nat.{ℕ, _+_, _*_, _-_, _/_, _≤_, _<_}
-use mathlib.Core.Path.{_≡_, _∙_}
-use mathlib.Core.Bool.{true, false}
+use mathlib.Core.Path.{_≡_, refl, _∙_}
+use mathlib.Core.Bool.{Bool, true, false}
 use native.Mathlib.Omega.{arith}
 use lib.Dec.{leb}
 use lib.ListN.{take, getD}
@@ -81,13 +81,21 @@ module _ (b : Bytes) (s : Sdpcm) where
   pub credits-by : (d : ℕ) → channelIn b < 3 → d ≡ creditStep (s .«last_bus_data_credit») (creditIn b) → leb d 20 ≡ credits b s
   credits-by d p e = simp (lt-ltb _ _ p, e)
 
-  pub accepted-not : (t : Sdpcm) → credits b s ≡ false → t ≡ setFlow s (flowIn b) → t ≡ accepted b s
+  pub credit-not : credits b s ≡ false → s .«last_bus_data_credit» ≡ accepted b s .«last_bus_data_credit»
   unfolding accepted
-  accepted-not t p d = d ∙ simp p
+  credit-not p = simp p
 
-  pub accepted-is : (t u : Sdpcm) → credits b s ≡ true → t ≡ setFlow s (flowIn b) → u ≡ setCredit t (creditIn b) → u ≡ accepted b s
+  pub credit-is : credits b s ≡ true → creditIn b ≡ accepted b s .«last_bus_data_credit»
   unfolding accepted
-  accepted-is t u p d h = h ∙ simp (p, d)
+  credit-is p = simp p
+
+  accepted-by : (v : Bool) → credits b s ≡ v → setCredit (setFlow s (flowIn b)) (accepted b s .«last_bus_data_credit») ≡ accepted b s
+  unfolding accepted
+  accepted-by true p = simp p
+  accepted-by false p = simp p
+
+  pub accepted-is : (n : ℕ) (t : Sdpcm) → n ≡ accepted b s .«last_bus_data_credit» → t ≡ setCredit (setFlow s (flowIn b)) n → t ≡ accepted b s
+  accepted-is n t e d = d ∙ rw e (accepted-by (credits b s) refl)
 
 module _ (came : ℕ) (b : Bytes) (s : Sdpcm) where
   pub process-not : (r : Received) → isPacket b ≡ false → r ≡ Received.Packet SdpcmPacket.None → record { sdpcm = s; received = r } ≡ processRx came b s

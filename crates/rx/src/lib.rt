@@ -113,16 +113,22 @@ fn credits(buf: &[u8], s: Sdpcm) -> bool
     credit_step(s.last_bus_data_credit, buf[9]) <= 20
 }
 
+fn credit_after(buf: &[u8], s: Sdpcm) -> u8
+    requires { ⌜ length (now buf) ≡ 2048 ⌝ }
+    ensures { λ r. ⌜ r ≡ accepted (now (buf .entry)) s .«last_bus_data_credit» ⌝ }
+{
+    if credits(buf, s) {
+        return buf[9];
+    }
+    s.last_bus_data_credit
+}
+
 // What is kept after a packet's header.
 fn accepted(buf: &[u8], s: Sdpcm) -> Sdpcm
     requires { ⌜ length (now buf) ≡ 2048 ⌝ }
     ensures { λ r. ⌜ r ≡ accepted (now (buf .entry)) s ⌝ }
 {
-    let t = setters::set_flow(s, buf[8]);
-    if credits(buf, s) {
-        return setters::set_credit(t, buf[9]);
-    }
-    t
+    setters::set_flow_credit(s, buf[8], credit_after(buf, s))
 }
 
 // h is the header length.

@@ -57,20 +57,17 @@ pub fn set_seq(s: Sdpcm, n: u8) -> Sdpcm
     t
 }
 
-pub fn set_credit(s: Sdpcm, n: u8) -> Sdpcm
-    ensures { λ r. ⌜ r ≡ to.setCredit s n ⌝ }
+// Flow and credit at once. It is made field by field, so that a compiler keeps it in registers.
+pub fn set_flow_credit(s: Sdpcm, flow: u8, credit: u8) -> Sdpcm
+    ensures { λ r. ⌜ r ≡ to.setCredit (to.setFlow s flow) credit ⌝ }
 {
-    let mut t = s;
-    t.last_bus_data_credit = n;
-    t
-}
-
-pub fn set_flow(s: Sdpcm, n: u8) -> Sdpcm
-    ensures { λ r. ⌜ r ≡ to.setFlow s n ⌝ }
-{
-    let mut t = s;
-    t.wlan_flow_control = n;
-    t
+    Sdpcm {
+        packet_tx_seq: s.packet_tx_seq,
+        last_bus_data_credit: credit,
+        wlan_flow_control: flow,
+        requested_ioctl_id: s.requested_ioctl_id,
+        had_successful_packet: s.had_successful_packet,
+    }
 }
 
 pub fn set_id(s: Sdpcm, n: u8) -> Sdpcm
