@@ -1,25 +1,21 @@
--- Nothing heard, and records that are kept.
+-- The session after an event, and records that are kept.
 use Prim.Native.Nat.{ℕ, _+_, _-_, _<_, _≤_}
 use mathlib.Core.Path.{_≡_, refl, sym, ap, subst, _∙_}
 use mathlib.Core.Bool.{Bool, true, false, _&&_, true≢false}
-use mathlib.Core.List.{List, [], _++_}
+use mathlib.Core.List.{List, _++_}
 use native.Mathlib.Omega.{arith}
 use borrow.Author.Tests.{lt-ltb, le-ltb, eqb-true}
-use lib.Dec.{eqb, ltb}
+use lib.Dec.{eqb}
 use lib.ListN.{length, take, drop, getD, replicate, length-take, length-drop, List·getD-append}
 use lib.Seq.{getD-take, getD-drop, take-append-le, take-take, drop-drop}
 use Rattle.slices.specs.Pick.{pick}
 use Rattle.slices.proofs.Over.{drop-take, getD-part}
 use Rattle.wlan.specs.declared.AsyncEvent.{AsyncEvent}
-use Rattle.wlan.specs.declared.BusAnswer.{BusAnswer}
 use Rattle.wlan.specs.declared.ScanRecord.{ScanRecord}
-use Rattle.wlan.specs.declared.Sdpcm.{Sdpcm}
 use Rattle.wlan.specs.declared.State.{State}
-use Rattle.handling.specs.declared.Handled.{Handled}
 use Rattle.handling.specs.Handle.{stateAfter, handledOf, listHeard}
 use Rattle.definition.specs.Scan.{heard}
 use Rattle.definition.specs.Event.{eventBytes, eventOf, scanResult, linkAfter, scanAfter, listAfter}
-use Rattle.device.specs.Meaning.{arrivalOf}
 use Rattle.receive.specs.declared.event.Numbers.{Numbers}
 use Rattle.receive.specs.Receive.{numbersOf, eventWith}
 use Rattle.session_bytes.specs.Session.{isSession, sessionIn, withState}
@@ -31,10 +27,6 @@ use Rattle.undo.specs.Undo.{Kept, keptOf, recordsKept, backSession, backBuf}
 use Rattle.undo.proofs.Laws.{front-changed, records-changed}
 use Rattle.arriving.specs.Arriving as to
 
--- short: below 48 bytes
-abbrev handledBy : Bool → State → AsyncEvent → Handled
-handledBy short s e = pick short (record { st = s; heard = false }) (record { st = stateAfter e s; heard = true })
-
 and-first : (t s : Bool) → (t && s) ≡ true → t ≡ true
 and-first true s h = refl
 and-first false s h = h
@@ -43,25 +35,15 @@ and-second : (t s : Bool) → (t && s) ≡ true → s ≡ true
 and-second true s h = h
 and-second false s h = absurd (true≢false (sym h))
 
-pub unheard : {b : List ℕ} (e : AsyncEvent) → isSession b ≡ true → Holds b (withList b (listHeard false e (sessionIn b .list)))
-unfolding listHeard
-unheard e h = record { known = h; back = refl }
-
 pub kept-same : {u s : List ℕ} → Kept u → to.KeptFor u u s s
 kept-same k = record { kept = k; count = refl; buf = λ b. refl; session = refl }
 
 -- the list first, then the state
 
-by-length : (b : List ℕ) {c d : List ℕ} (e : AsyncEvent) (t : Bool) → Holds c (withList b (listHeard (pick t false true) e (sessionIn b .list)))
-    → Holds d (withState c (handledBy t (sessionIn c .st) e .st))
-    → Holds d (record { st = handledBy t (sessionIn b .st) e .st; list = listHeard (handledBy t (sessionIn b .st) e .heard) e (sessionIn b .list) })
-by-length b e true h k = rw (h .back) at k
-by-length b e false h k = rw (h .back) at k
-
-pub handled-both : (b : List ℕ) {c d : List ℕ} (e : AsyncEvent) (len : ℕ) → Holds c (withList b (listHeard (pick (ltb len 48) false true) e (sessionIn b .list)))
-    → Holds d (withState c (handledOf (sessionIn c .st) len e .st)) → Holds d (to.handledSession b e len)
-unfolding to.handledSession handledOf
-handled-both b e len h k = by-length b e (ltb len 48) h k
+pub after-both : (b : List ℕ) {c d : List ℕ} (e : AsyncEvent) → Holds c (withList b (listAfter e (sessionIn b .list)))
+    → Holds d (withState c (stateAfter e (sessionIn c .st))) → Holds d (to.afterSession b e)
+unfolding to.afterSession
+after-both b e h k = rw (h .back) at k
 
 -- a state laid after the list leaves what is put back
 pub kept-state : {u v b c d : List ℕ} (s : State) → to.KeptFor u v b c → isSession c ≡ true → Holds d (withState c s) → to.KeptFor u v b d
@@ -78,11 +60,6 @@ pub kept-records : {u v b d : List ℕ} → Kept v → recordsKept v ≡ true �
     → isSession b ≡ true → isSession d ≡ true → to.KeptFor u v b d
 kept-records k r n f e hb hd =
     record { kept = k; count = n; buf = f; session = records-changed _ _ k r (session-length _ hd) (session-length _ hb) ∙ e }
-
-pub none-came : (x : BusAnswer) (s : Sdpcm) → to.heardFrom x (arrivalOf 0 [] s) ≡ false
-unfolding to.heardFrom arrivalOf
-none-came (BusAnswer.Value v) s = refl
-none-came (BusAnswer.Fault p) s = refl
 
 -- ---- an event's bytes where they lie
 

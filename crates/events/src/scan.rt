@@ -1,13 +1,10 @@
-// The scan list, by value, and what an event does to it.
-use wlan::AsyncEvent;
+// The scan list, by value.
 use wlan::ScanList;
-use wlan::ScanMarks;
 use wlan::ScanRecord;
 ghost use mathlib.Core.Path.{_≡_};
 ghost use Prim.Native.Nat.{min};
 ghost use lib.ListN.{take};
-ghost use Rattle.definition.specs.Scan.{sameBytes, sameNetwork, known, heard, cleared};
-ghost use Rattle.definition.specs.Event.{scanAfter, listAfter};
+ghost use Rattle.definition.specs.Scan.{sameBytes, sameNetwork, known, heard};
 
 fn same_bytes(a: [u8; 6], b: [u8; 6]) -> bool
     ensures { λ x. ⌜ x ≡ sameBytes a b ⌝ }
@@ -70,43 +67,6 @@ pub fn heard(l: ScanList, r: ScanRecord) -> ScanList
         t.records[count] = r;
         t.count = count + 1;
         return t;
-    }
-    l
-}
-
-pub fn cleared(l: ScanList) -> ScanList
-    ensures { λ x. ⌜ x ≡ cleared l ⌝ }
-{
-    let mut t = l;
-    t.count = 0;
-    t
-}
-
-// 69 is ESCAN_RESULT; status 0 ends the scan, 8 brings a network.
-pub fn scan_after(e: AsyncEvent, m: ScanMarks) -> ScanMarks
-    ensures { λ x. ⌜ x ≡ scanAfter e m ⌝ }
-{
-    if e.event_type != 69 {
-        return m;
-    }
-    if e.status == 0 {
-        return ScanMarks {
-            scan_done: true,
-            scan_in_progress: false,
-        };
-    }
-    m
-}
-
-pub fn list_after(e: AsyncEvent, l: ScanList) -> ScanList
-    ensures { λ x. ⌜ x ≡ listAfter e l ⌝ }
-{
-    if e.event_type != 69 {
-        return l;
-    }
-    if e.status == 8 {
-        let r = e.scan_result;
-        return heard(l, r);
     }
     l
 }

@@ -1,25 +1,31 @@
--- The event that a poll brought is the one in the work buffer; an answer that leaves the session as it is.
+-- The event that a poll brought is the one in the work buffer; an answer that leaves the session as it is, and a packet that came.
 use mathlib.Core.Path.{_≡_, refl, ap, sym, _∙_}
 use mathlib.Core.Bool.{true, Bool, false, _||_, true≢false}
 use mathlib.Core.List.{List}
 use Prim.Native.Nat.{ℕ}
 use borrow.Author.Tests.{eqb-true}
 use lib.Dec.{eqb}
+use lib.IntN.{ℤ}
 use Rattle.wlan.specs.declared.AsyncEvent.{AsyncEvent}
 use Rattle.wlan.specs.declared.BusAnswer.{BusAnswer}
+use Rattle.wlan.specs.declared.Interface.{Interface}
 use Rattle.wlan.specs.declared.Link.{Link}
+use Rattle.wlan.specs.declared.RxPacket.{RxPacket}
 use Rattle.wlan.specs.declared.Sdpcm.{Sdpcm}
 use Rattle.definition.specs.Bus.{Bytes}
 use Rattle.definition.specs.Event.{linkAfter}
+use Rattle.rx.specs.declared.PacketKind.{PacketKind}
+use Rattle.rx.specs.declared.Processed.{Processed}
+use Rattle.rx.specs.Packets.{receivedBy, receivedOf, rxOf}
 use Rattle.device.specs.declared.PollPoint.{PollPoint}
 use Rattle.device.specs.declared.PollStep.{PollStep}
-use Rattle.device.specs.Poll.{pollOp, pollAnswer, step}
+use Rattle.device.specs.Poll.{pollOp, pollAnswer, step, gotStep, receivedStep}
 use Rattle.device.specs.Meaning.{arrivalAt, Tells}
 use Rattle.device.proofs.Bridge.{tells-valued}
 use Rattle.session_bytes.specs.Session.{isSession, sessionIn}
 use Rattle.places.specs.Places.{Holds, sdpcmPut}
 use Rattle.receive.specs.declared.polled.Polled.{Polled}
-use Rattle.receive.specs.Receive.{polledAt, nextOf, Polls, isLink}
+use Rattle.receive.specs.Receive.{polledAt, nextBy, nextOf, cameBy, polledKind, Polls, isLink}
 
 pub polled-tells : (s : Sdpcm) (p : PollPoint) (x : BusAnswer) (b : Bytes) → Tells b (arrivalAt (pollOp p) b s .event) (polledAt s p x b .next)
 unfolding Tells pollAnswer
@@ -29,8 +35,16 @@ polled-tells s p (BusAnswer.Fault place) b = tt
 pub still : {b : List ℕ} {r : Polled} (f : PollStep) → isSession b ≡ true → step (sessionIn b .st .sdpcm) (nextOf r) ≡ f → Polls b b r f
 still {b} {r} f h e = rw (← e) (record { next = refl; held = record { known = h; back = refl } })
 
-pub changed : {b d : List ℕ} {r : Polled} {t : Sdpcm} (f : PollStep) → Holds d (sdpcmPut b t) → step t (nextOf r) ≡ f → Polls b d r f
-changed {b} {d} {r} {t} f h e = rw (← e) (record { next = refl; held = h })
+pub processed : {b d : List ℕ} {r : Polled} (x : Processed) (y : RxPacket) → Holds d (sdpcmPut b (x .sdpcm)) → ((s : Sdpcm) → step s (nextOf r) ≡ gotStep s (receivedOf (x .packet))) → rxOf x ≡ y → Polls b d r (receivedStep y)
+processed x y h k e = rw (← e, ← k (x .sdpcm)) (record { next = refl; held = h })
+
+pub came-is : (k : PacketKind) (offset len : ℕ) (status : ℤ) (interface : Interface) (s : Sdpcm) → step s (nextOf (cameBy (polledKind k) offset len status interface)) ≡ gotStep s (receivedOf (record { kind = k; offset = offset; len = len; status = status; interface = interface }))
+unfolding nextBy polledKind gotStep receivedBy
+came-is PacketKind.None offset len status interface s = refl
+came-is PacketKind.Control offset len status interface s = refl
+came-is PacketKind.AsyncEvent offset len status interface s = refl
+came-is PacketKind.Data offset len status interface s = refl
+came-is PacketKind.HeaderBeyond offset len status interface s = refl
 
 -- ---- what no connection heeds
 

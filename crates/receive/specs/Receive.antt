@@ -15,6 +15,7 @@ use Rattle.wlan.specs.declared.Sdpcm.{Sdpcm}
 use Rattle.wlan.specs.declared.SdpcmPacket.{SdpcmPacket}
 use Rattle.definition.specs.Bus.{Bytes}
 use Rattle.definition.specs.Event.{eventOf}
+use Rattle.rx.specs.declared.PacketKind.{PacketKind}
 use Rattle.device.specs.declared.PollNext.{PollNext}
 use Rattle.device.specs.declared.PollPoint.{PollPoint}
 use Rattle.device.specs.declared.PollStep.{PollStep}
@@ -62,6 +63,13 @@ nextOf r = nextBy (r .kind) r
 abbrev pub cameBy : PolledKind → ℕ → ℕ → ℤ → Interface → Polled
 cameBy kind offset len status interface =
     record { kind = kind; at = record { kind = PollKind.Interrupt; n = 0 }; offset = offset; len = len; status = status; interface = interface }
+
+unfoldable pub polledKind : PacketKind → PolledKind
+polledKind PacketKind.None = PolledKind.None
+polledKind PacketKind.Control = PolledKind.Control
+polledKind PacketKind.AsyncEvent = PolledKind.AsyncEvent
+polledKind PacketKind.Data = PolledKind.Data
+polledKind PacketKind.HeaderBeyond = PolledKind.HeaderBeyond
 
 -- b and d: the session's bytes before and after
 pub record Polls (b d : List ℕ) (r : Polled) (s : PollStep) : Type 0 where

@@ -1,9 +1,7 @@
 // What an event does to the state.
 use events::event::read_event;
-use events::scan::scan_after;
 use handling::link::link_after;
 use places::read::link_at;
-use places::read::marks_at;
 use places::write::put_link;
 use places::write::put_marks;
 use wlan::AsyncEvent;
@@ -15,7 +13,7 @@ ghost use Prim.Native.Nat.{_+_, _*_, _≤_};
 ghost use lib.ListN.{length, drop};
 ghost use Rattle.wlan.specs.declared.ScanRecord as scanRecord;
 ghost use Rattle.definition.specs.Event.{linkAfter, eventOf};
-ghost use Rattle.handling.specs.Handle.{stateAfter, handledOf};
+ghost use Rattle.handling.specs.Handle.{stateAfter};
 ghost use Rattle.session_bytes.specs.Session.{isSession, sessionIn, withState};
 ghost use Rattle.places.specs.Places.{Holds, linkPut};
 ghost use Rattle.receive.specs.Receive as to;
@@ -35,25 +33,6 @@ pub fn event_from(buf: &[u8], offset: usize, len: u16) -> AsyncEvent
         return read_event(&buf[buf.len()..], len);
     }
     read_event(&buf[offset..], len)
-}
-
-fn handle(s: &mut [u8], e: AsyncEvent)
-    requires { ⌜ isSession (now s) ≡ true ⌝ }
-    ensures { λ _. ⌜ Holds (now (s .exit)) (withState (now (s .entry)) (stateAfter e (sessionIn (now (s .entry)) .st))) ⌝ }
-{
-    put_marks(s, scan_after(e, marks_at(s)));
-    put_link(s, link_after(e, link_at(s)));
-}
-
-// An event of a declared length; below 48 bytes it is ignored.
-pub fn handle_async_event(s: &mut [u8], buf: &[u8], offset: u16, len: u16)
-    requires { ⌜ isSession (now s) ≡ true ⌝ }
-    ensures { λ _. ⌜ Holds (now (s .exit)) (withState (now (s .entry)) (handledOf (sessionIn (now (s .entry)) .st) len (eventOf (drop offset (now (buf .entry))) len) .st)) ⌝ }
-{
-    if len < 48 {
-        return;
-    }
-    handle(s, event_from(buf, offset as usize, len));
 }
 
 fn be16(a: u8, b: u8) -> u16
@@ -106,34 +85,19 @@ fn handle_link(s: &mut [u8], n: Numbers)
 fn is_link(t: u32) -> bool
     ensures { λ r. ⌜ r ≡ to.isLink t ⌝ }
 {
-    if t == 0 {
-        return true;
+    match t {
+        0 => true,
+        3 => true,
+        7 => true,
+        16 => true,
+        23 => true,
+        46 => true,
+        5 => true,
+        6 => true,
+        11 => true,
+        12 => true,
+        _ => false,
     }
-    if t == 3 {
-        return true;
-    }
-    if t == 7 {
-        return true;
-    }
-    if t == 16 {
-        return true;
-    }
-    if t == 23 {
-        return true;
-    }
-    if t == 46 {
-        return true;
-    }
-    if t == 5 {
-        return true;
-    }
-    if t == 6 {
-        return true;
-    }
-    if t == 11 {
-        return true;
-    }
-    t == 12
 }
 
 // The event's effect on the state: 69 is ESCAN_RESULT, of which status 0 ends the scan.

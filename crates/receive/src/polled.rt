@@ -2,22 +2,24 @@
 // a compiler keeps that in registers.
 use places::read::sdpcm_at;
 use places::write::put_sdpcm;
+use rx::Packet;
+use rx::PacketKind;
+use rx::blank;
 use rx::sdpcm_process_rx_packet;
-use sdpcm::header::blank;
 use sdpcm::status::f2_available;
 use sdpcm::status::has_packet;
 use sdpcm::status::pending;
 use sdpcm::status::unreadable;
 use wlan::Interface;
-use wlan::Received;
-use wlan::SdpcmPacket;
 use wlan::setters::set_mark;
 ghost use mathlib.Core.Path.{_≡_};
 ghost use mathlib.Core.Bool.{true, false};
+ghost use lib.ListN.{length};
 ghost use Rattle.wlan.specs.State.{setMark};
 ghost use Rattle.wlan.specs.declared.BusAnswer.{BusAnswer};
 ghost use Rattle.wlan.specs.declared.Sdpcm.{Sdpcm};
 ghost use Rattle.wlan.specs.declared.SdpcmPacket as packet;
+ghost use Rattle.rx.specs.Packets.{receivedOf};
 ghost use Rattle.device.specs.declared.PollNext as next;
 ghost use Rattle.device.specs.Poll as to;
 ghost use Rattle.device.specs.Meaning.{arrivalOf};
@@ -177,39 +179,30 @@ fn status_read(s: &mut [u8], left: u16, v: u32) -> Polled
     }
 }
 
-fn got(p: SdpcmPacket) -> Polled
-    ensures { λ r. ⌜ at.nextOf r ≡ next.PollNext.Got p ⌝ }
+fn polled_kind(k: PacketKind) -> PolledKind
+    ensures { λ r. ⌜ r ≡ at.polledKind k ⌝ }
 {
-    match p {
-        SdpcmPacket::None => none(),
-        SdpcmPacket::Control {
-            offset,
-            len,
-            status,
-        } => came(PolledKind::Control, offset, len, status, Interface::Sta),
-        SdpcmPacket::AsyncEvent { offset, len } => {
-            came(PolledKind::AsyncEvent, offset, len, 0, Interface::Sta)
-        }
-        SdpcmPacket::Data {
-            offset,
-            len,
-            interface,
-        } => came(PolledKind::Data, offset, len, 0, interface),
+    match k {
+        PacketKind::None => PolledKind::None,
+        PacketKind::Control => PolledKind::Control,
+        PacketKind::AsyncEvent => PolledKind::AsyncEvent,
+        PacketKind::Data => PolledKind::Data,
+        PacketKind::HeaderBeyond => PolledKind::HeaderBeyond,
     }
 }
 
-fn received(p: Received) -> Polled
-    ensures { λ r. ⌜ ((s : Sdpcm) → to.step s (at.nextOf r) ≡ to.gotStep s p) ⌝ }
+fn received(p: Packet) -> Polled
+    ensures { λ r. ⌜ ((s : Sdpcm) → to.step s (at.nextOf r) ≡ to.gotStep s (receivedOf p)) ⌝ }
 {
-    match p {
-        Received::Packet(k) => got(k),
-        Received::HeaderBeyond => came(PolledKind::HeaderBeyond, 0, 0, 0, Interface::Sta),
-    }
+    let k = p.kind;
+    let interface = p.interface;
+    came(polled_kind(k), p.offset, p.len, p.status, interface)
 }
 
 // A packet was read.
 fn arrived(s: &mut [u8], n: u16, buf: &[u8]) -> Polled
     requires { ⌜ isSession (now s) ≡ true ⌝ }
+    requires { ⌜ length (now buf) ≡ 2048 ⌝ }
     ensures { λ r. ⌜ at.Polls (now (s .entry)) (now (s .exit)) r (to.arrivedStep (sessionIn (now (s .entry)) .st .sdpcm) (arrivalOf n (now (buf .entry)) (sessionIn (now (s .entry)) .st .sdpcm))) ⌝ }
 {
     if blank(buf) {
@@ -217,7 +210,7 @@ fn arrived(s: &mut [u8], n: u16, buf: &[u8]) -> Polled
     }
     let rx = sdpcm_process_rx_packet(n, buf, set_mark(sdpcm_at(s), true));
     let t = rx.sdpcm;
-    let p = rx.received;
+    let p = rx.packet;
     put_sdpcm(s, t);
     received(p)
 }
@@ -225,6 +218,7 @@ fn arrived(s: &mut [u8], n: u16, buf: &[u8]) -> Polled
 // The value of an answer to the operation at p.
 pub fn poll_device(s: &mut [u8], p: PollAt, v: u64, buf: &[u8]) -> Polled
     requires { ⌜ isSession (now s) ≡ true ⌝ }
+    requires { ⌜ length (now buf) ≡ 2048 ⌝ }
     ensures { λ r. ⌜ at.Polls (now (s .entry)) (now (s .exit)) r (at.polledAt (sessionIn (now (s .entry)) .st .sdpcm) (at.pointOf p) (BusAnswer.Value v) (now (buf .entry))) ⌝ }
 {
     let k = p.kind;

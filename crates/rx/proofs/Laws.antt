@@ -1,7 +1,7 @@
 -- The definitions of `Packet`, case by case: what each `return` cites.
 use Prim.Native.Nat.{ℕ, _+_, _*_, _-_, _/_, _≤_, _<_}
-use mathlib.Core.Path.{_≡_, _∙_}
-use mathlib.Core.Bool.{true, false}
+use mathlib.Core.Path.{_≡_, refl, _∙_}
+use mathlib.Core.Bool.{Bool, true, false}
 use native.Mathlib.Omega.{arith}
 use lib.Dec.{leb}
 use lib.ListN.{take, getD}
@@ -81,19 +81,27 @@ module _ (b : Bytes) (s : Sdpcm) where
   pub credits-by : (d : ℕ) → channelIn b < 3 → d ≡ creditStep (s .«last_bus_data_credit») (creditIn b) → leb d 20 ≡ credits b s
   credits-by d p e = simp (lt-ltb _ _ p, e)
 
-  pub accepted-not : (f : ℕ) (t : Sdpcm) → credits b s ≡ false → f ≡ flowIn b → t ≡ setFlow s f → t ≡ accepted b s
+  pub credit-not : credits b s ≡ false → s .«last_bus_data_credit» ≡ accepted b s .«last_bus_data_credit»
   unfolding accepted
-  accepted-not f t p e d = d ∙ simp (p, e)
+  credit-not p = simp p
 
-  pub accepted-is : (f n : ℕ) (t u : Sdpcm) → credits b s ≡ true → f ≡ flowIn b → t ≡ setFlow s f → n ≡ creditIn b → u ≡ setCredit t n → u ≡ accepted b s
+  pub credit-is : credits b s ≡ true → creditIn b ≡ accepted b s .«last_bus_data_credit»
   unfolding accepted
-  accepted-is f n t u p e d g h = h ∙ simp (p, d, e, g)
+  credit-is p = simp p
+
+  accepted-by : (v : Bool) → credits b s ≡ v → setCredit (setFlow s (flowIn b)) (accepted b s .«last_bus_data_credit») ≡ accepted b s
+  unfolding accepted
+  accepted-by true p = simp p
+  accepted-by false p = simp p
+
+  pub accepted-is : (n : ℕ) (t : Sdpcm) → n ≡ accepted b s .«last_bus_data_credit» → t ≡ setCredit (setFlow s (flowIn b)) n → t ≡ accepted b s
+  accepted-is n t e d = d ∙ rw e (accepted-by (credits b s) refl)
 
 module _ (came : ℕ) (b : Bytes) (s : Sdpcm) where
-  pub process-not : isPacket b ≡ false → record { sdpcm = s; received = Received.Packet SdpcmPacket.None } ≡ processRx came b s
+  pub process-not : (r : Received) → isPacket b ≡ false → r ≡ Received.Packet SdpcmPacket.None → record { sdpcm = s; received = r } ≡ processRx came b s
   unfolding processRx
-  process-not p = simp p
+  process-not r p q = simp (p, q)
 
-  pub process-is : (size channel h : ℕ) (next : Sdpcm) (r : Received) → isPacket b ≡ true → next ≡ accepted b s → size ≡ sizeIn b → channel ≡ channelIn b → h ≡ headerLengthIn b → r ≡ payloadOf (take size b) size channel h (s .«requested_ioctl_id») → record { sdpcm = next; received = r } ≡ processRx came b s
+  pub process-is : (size channel : ℕ) (next : Sdpcm) (r : Received) → isPacket b ≡ true → next ≡ accepted b s → size ≡ sizeIn b → channel ≡ channelIn b → r ≡ payloadOf (take size b) size channel (headerLengthIn b) (s .«requested_ioctl_id») → record { sdpcm = next; received = r } ≡ processRx came b s
   unfolding processRx
-  process-is size channel h next r p d e f g q = simp (p, d, q, e, f, g)
+  process-is size channel next r p d e f q = simp (p, d, q, e, f)

@@ -1,17 +1,85 @@
-// Received packets. A byte past the buffer counts as 0.
-use sdpcm::header::complement_in;
-use sdpcm::header::size_in;
+// Received packets, in the work buffer: it has 2,048 bytes, so all that a header's length can reach is there. What is handed on
+// is flat, a kind beside plain numbers.
 use wlan::Interface;
-use wlan::Received;
-use wlan::RxPacket;
 use wlan::Sdpcm;
-use wlan::SdpcmPacket;
 use wlan::setters;
 ghost use mathlib.Core.Path.{_≡_};
-ghost use lib.ListN.{take};
-ghost use Rattle.definition.specs.Packet.{channelIn, creditStep, isPacket, credits, accepted, controlOf, interfaceOf, dataOf, eventAt, payloadOf, processRx};
+ghost use mathlib.Core.Bool.{_&&_};
+ghost use Prim.Native.Nat.{_+_, _*_};
+ghost use lib.Dec.{eqb};
+ghost use lib.ListN.{length, take};
+ghost use Rattle.wlan.specs.declared.Received as received;
+ghost use Rattle.wlan.specs.declared.SdpcmPacket as packet;
+ghost use Rattle.definition.specs.Packet.{sizeIn, complementIn, channelIn, creditStep, isPacket, credits, accepted, controlOf, interfaceOf, dataOf, eventAt, payloadOf, processRx};
+ghost use Rattle.rx.specs.Packets as to;
 
-pub fn is_packet(buf: &[u8]) -> bool
+pub enum PacketKind {
+    None,
+    Control,
+    AsyncEvent,
+    Data,
+    HeaderBeyond,
+}
+
+// A packet or none, or that its header's length is beyond its size.
+pub struct Packet {
+    pub kind: PacketKind,
+    pub offset: u16,
+    pub len: u16,
+    pub status: i32,
+    pub interface: Interface,
+}
+
+pub struct Processed {
+    pub sdpcm: Sdpcm,
+    pub packet: Packet,
+}
+
+fn none() -> Packet
+    ensures { λ r. ⌜ to.receivedOf r ≡ received.Received.Packet packet.SdpcmPacket.None ⌝ }
+{
+    Packet {
+        kind: PacketKind::None,
+        offset: 0,
+        len: 0,
+        status: 0,
+        interface: Interface::Sta,
+    }
+}
+
+fn le16(a: u8, b: u8) -> u16
+    ensures { λ r. ⌜ r ≡ a + 256 * b ⌝ }
+{
+    a as u16 + 256 * b as u16
+}
+
+fn size_in(buf: &[u8]) -> u16
+    requires { ⌜ length (now buf) ≡ 2048 ⌝ }
+    ensures { λ r. ⌜ r ≡ sizeIn (now (buf .entry)) ⌝ }
+{
+    le16(buf[0], buf[1])
+}
+
+fn complement_in(buf: &[u8]) -> u16
+    requires { ⌜ length (now buf) ≡ 2048 ⌝ }
+    ensures { λ r. ⌜ r ≡ complementIn (now (buf .entry)) ⌝ }
+{
+    le16(buf[2], buf[3])
+}
+
+// Size and complement are both 0: nothing was there to read.
+pub fn blank(buf: &[u8]) -> bool
+    requires { ⌜ length (now buf) ≡ 2048 ⌝ }
+    ensures { λ r. ⌜ r ≡ (eqb (sizeIn (now (buf .entry))) 0 && eqb (complementIn (now (buf .entry))) 0) ⌝ }
+{
+    if size_in(buf) != 0 {
+        return false;
+    }
+    complement_in(buf) == 0
+}
+
+fn is_packet(buf: &[u8]) -> bool
+    requires { ⌜ length (now buf) ≡ 2048 ⌝ }
     ensures { λ r. ⌜ r ≡ isPacket (now (buf .entry)) ⌝ }
 {
     let size = size_in(buf);
@@ -21,59 +89,71 @@ pub fn is_packet(buf: &[u8]) -> bool
     12 <= size
 }
 
-pub fn channel_in(buf: &[u8]) -> u8
+fn channel_in(buf: &[u8]) -> u8
+    requires { ⌜ length (now buf) ≡ 2048 ⌝ }
     ensures { λ r. ⌜ r ≡ channelIn (now (buf .entry)) ⌝ }
 {
-    words::byte_at(buf, 5) % 16
+    buf[5] % 16
 }
 
-pub fn credit_step(last: u8, new: u8) -> u8
+fn credit_step(last: u8, new: u8) -> u8
     ensures { λ r. ⌜ r ≡ creditStep last new ⌝ }
 {
     std::num::wrapping_sub_u8(new, last)
 }
 
 // Is the packet's credit to be stored?
-pub fn credits(buf: &[u8], s: Sdpcm) -> bool
+fn credits(buf: &[u8], s: Sdpcm) -> bool
+    requires { ⌜ length (now buf) ≡ 2048 ⌝ }
     ensures { λ r. ⌜ r ≡ credits (now (buf .entry)) s ⌝ }
 {
     if 3 <= channel_in(buf) {
         return false;
     }
-    credit_step(s.last_bus_data_credit, words::byte_at(buf, 9)) <= 20
+    credit_step(s.last_bus_data_credit, buf[9]) <= 20
+}
+
+fn credit_after(buf: &[u8], s: Sdpcm) -> u8
+    requires { ⌜ length (now buf) ≡ 2048 ⌝ }
+    ensures { λ r. ⌜ r ≡ accepted (now (buf .entry)) s .«last_bus_data_credit» ⌝ }
+{
+    if credits(buf, s) {
+        return buf[9];
+    }
+    s.last_bus_data_credit
 }
 
 // What is kept after a packet's header.
-pub fn accepted(buf: &[u8], s: Sdpcm) -> Sdpcm
+fn accepted(buf: &[u8], s: Sdpcm) -> Sdpcm
+    requires { ⌜ length (now buf) ≡ 2048 ⌝ }
     ensures { λ r. ⌜ r ≡ accepted (now (buf .entry)) s ⌝ }
 {
-    let t = setters::set_flow(s, words::byte_at(buf, 8));
-    if credits(buf, s) {
-        return setters::set_credit(t, words::byte_at(buf, 9));
-    }
-    t
+    setters::set_flow_credit(s, buf[8], credit_after(buf, s))
 }
 
 // h is the header length.
-pub fn control_of(buf: &[u8], size: u16, h: u8, id: u8) -> SdpcmPacket
-    ensures { λ r. ⌜ r ≡ controlOf (take size (now (buf .entry))) size h id ⌝ }
+fn control_of(buf: &[u8], size: u16, h: u8, id: u8) -> Packet
+    requires { ⌜ length (now buf) ≡ 2048 ⌝ }
+    ensures { λ r. ⌜ to.receivedOf r ≡ received.Received.Packet (controlOf (take size (now (buf .entry))) size h id) ⌝ }
 {
     let at = h as u16;
     if size < at + 16 {
-        return SdpcmPacket::None;
+        return none();
     }
     let i = h as usize;
-    if words::get_le32(buf, i + 8) / 65536 != id as u32 {
-        return SdpcmPacket::None;
+    if words::get_whole(buf, i + 8) / 65536 != id as u32 {
+        return none();
     }
-    SdpcmPacket::Control {
+    Packet {
+        kind: PacketKind::Control,
         offset: at + 16,
         len: size - (at + 16),
-        status: words::signed32(words::get_le32(buf, i + 12)),
+        status: words::signed32(words::get_whole(buf, i + 12)),
+        interface: Interface::Sta,
     }
 }
 
-pub fn interface_of(n: u8) -> Interface
+fn interface_of(n: u8) -> Interface
     ensures { λ r. ⌜ r ≡ interfaceOf n ⌝ }
 {
     if n == 1 {
@@ -85,74 +165,88 @@ pub fn interface_of(n: u8) -> Interface
     Interface::Sta
 }
 
-pub fn data_of(buf: &[u8], size: u16, h: u8) -> SdpcmPacket
-    ensures { λ r. ⌜ r ≡ dataOf (take size (now (buf .entry))) size h ⌝ }
+fn data_of(buf: &[u8], size: u16, h: u8) -> Packet
+    requires { ⌜ length (now buf) ≡ 2048 ⌝ }
+    ensures { λ r. ⌜ to.receivedOf r ≡ received.Received.Packet (dataOf (take size (now (buf .entry))) size h) ⌝ }
 {
     let at = h as u16;
     if size <= 16 {
-        return SdpcmPacket::None;
+        return none();
     }
     if size < at + 4 {
-        return SdpcmPacket::None;
+        return none();
     }
     let i = h as usize;
-    let words = words::byte_at(buf, i + 3) as u16;
+    let words = words::wide(buf[i + 3]) as u16;
     let p = at + 4 + 4 * words;
     if size < p {
-        return SdpcmPacket::None;
+        return none();
     }
-    SdpcmPacket::Data {
+    Packet {
+        kind: PacketKind::Data,
         offset: p,
         len: size - p,
-        interface: interface_of(words::byte_at(buf, i + 2)),
+        status: 0,
+        interface: interface_of(buf[i + 2]),
     }
 }
 
-pub fn event_at(size: u16, h: u8) -> Received
-    ensures { λ r. ⌜ r ≡ eventAt size h ⌝ }
+fn event_at(size: u16, h: u8) -> Packet
+    ensures { λ r. ⌜ to.receivedOf r ≡ eventAt size h ⌝ }
 {
     let at = h as u16;
     if size < at {
-        return Received::HeaderBeyond;
+        return Packet {
+            kind: PacketKind::HeaderBeyond,
+            offset: 0,
+            len: 0,
+            status: 0,
+            interface: Interface::Sta,
+        };
     }
-    Received::Packet(SdpcmPacket::AsyncEvent {
+    Packet {
+        kind: PacketKind::AsyncEvent,
         offset: at,
         len: size - at,
-    })
+        status: 0,
+        interface: Interface::Sta,
+    }
 }
 
 // The packet by its channel.
-pub fn payload_of(buf: &[u8], size: u16, channel: u8, h: u8, id: u8) -> Received
-    ensures { λ r. ⌜ r ≡ payloadOf (take size (now (buf .entry))) size channel h id ⌝ }
+fn payload_of(buf: &[u8], size: u16, channel: u8, h: u8, id: u8) -> Packet
+    requires { ⌜ length (now buf) ≡ 2048 ⌝ }
+    ensures { λ r. ⌜ to.receivedOf r ≡ payloadOf (take size (now (buf .entry))) size channel h id ⌝ }
 {
     match channel {
-        0 => Received::Packet(control_of(buf, size, h, id)),
+        0 => control_of(buf, size, h, id),
         1 => event_at(size, h),
-        2 => Received::Packet(data_of(buf, size, h)),
-        _ => Received::Packet(SdpcmPacket::None),
+        2 => data_of(buf, size, h),
+        _ => none(),
     }
 }
 
 // How many bytes came is not consulted.
-pub fn sdpcm_process_rx_packet(came: u16, buf: &[u8], s: Sdpcm) -> RxPacket
-    ensures { λ r. ⌜ r ≡ processRx came (now (buf .entry)) s ⌝ }
+pub fn sdpcm_process_rx_packet(came: u16, buf: &[u8], s: Sdpcm) -> Processed
+    requires { ⌜ length (now buf) ≡ 2048 ⌝ }
+    ensures { λ r. ⌜ to.rxOf r ≡ processRx came (now (buf .entry)) s ⌝ }
 {
     if is_packet(buf) {
         let next = accepted(buf, s);
-        let received = payload_of(
+        let packet = payload_of(
             buf,
             size_in(buf),
             channel_in(buf),
-            words::byte_at(buf, 7),
+            buf[7],
             s.requested_ioctl_id,
         );
-        return RxPacket {
+        return Processed {
             sdpcm: next,
-            received: received,
+            packet: packet,
         };
     }
-    RxPacket {
+    Processed {
         sdpcm: s,
-        received: Received::Packet(SdpcmPacket::None),
+        packet: none(),
     }
 }

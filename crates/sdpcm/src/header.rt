@@ -1,36 +1,13 @@
-// The header of a packet, received and sent, and the numbers that a send spends.
+// The header of a sent packet, and the numbers that a send spends.
 use wlan::Sdpcm;
 use wlan::setters;
 ghost use mathlib.Core.Path.{_≡_};
-ghost use mathlib.Core.Bool.{_&&_};
 ghost use Prim.Native.Nat.{_+_, _%_};
 ghost use lib.Dec.{eqb};
 ghost use Rattle.slices.specs.Pick.{pick};
 ghost use Rattle.slices.specs.Over.{over};
 ghost use Rattle.wlan.specs.State.{setSeq, setId};
-ghost use Rattle.definition.specs.Packet.{sizeIn, complementIn, header, dataPart};
-
-pub fn size_in(buf: &[u8]) -> u16
-    ensures { λ r. ⌜ r ≡ sizeIn (now (buf .entry)) ⌝ }
-{
-    words::get_le16(buf, 0)
-}
-
-pub fn complement_in(buf: &[u8]) -> u16
-    ensures { λ r. ⌜ r ≡ complementIn (now (buf .entry)) ⌝ }
-{
-    words::get_le16(buf, 2)
-}
-
-// Size and complement are both 0: nothing was there to read.
-pub fn blank(buf: &[u8]) -> bool
-    ensures { λ r. ⌜ r ≡ (eqb (sizeIn (now (buf .entry))) 0 && eqb (complementIn (now (buf .entry))) 0) ⌝ }
-{
-    if size_in(buf) != 0 {
-        return false;
-    }
-    complement_in(buf) == 0
-}
+ghost use Rattle.definition.specs.Packet.{header, dataPart};
 
 // A data packet's header is two bytes longer.
 fn header_length(channel: u8) -> u8

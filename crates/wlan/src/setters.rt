@@ -41,35 +41,11 @@ pub fn fresh() -> State
     }
 }
 
-pub fn with_sdpcm(s: State, x: Sdpcm) -> State
-    ensures { λ r. ⌜ r ≡ to.withSdpcm s x ⌝ }
-{
-    let mut t = s;
-    t.sdpcm = x;
-    t
-}
-
 pub fn with_pending(s: State, x: Pending) -> State
     ensures { λ r. ⌜ r ≡ to.withPending s x ⌝ }
 {
     let mut t = s;
     t.pending = x;
-    t
-}
-
-pub fn with_scan(s: State, x: ScanMarks) -> State
-    ensures { λ r. ⌜ r ≡ to.withScan s x ⌝ }
-{
-    let mut t = s;
-    t.scan = x;
-    t
-}
-
-pub fn with_link(s: State, x: Link) -> State
-    ensures { λ r. ⌜ r ≡ to.withLink s x ⌝ }
-{
-    let mut t = s;
-    t.link = x;
     t
 }
 
@@ -81,20 +57,17 @@ pub fn set_seq(s: Sdpcm, n: u8) -> Sdpcm
     t
 }
 
-pub fn set_credit(s: Sdpcm, n: u8) -> Sdpcm
-    ensures { λ r. ⌜ r ≡ to.setCredit s n ⌝ }
+// Flow and credit at once. It is made field by field, so that a compiler keeps it in registers.
+pub fn set_flow_credit(s: Sdpcm, flow: u8, credit: u8) -> Sdpcm
+    ensures { λ r. ⌜ r ≡ to.setCredit (to.setFlow s flow) credit ⌝ }
 {
-    let mut t = s;
-    t.last_bus_data_credit = n;
-    t
-}
-
-pub fn set_flow(s: Sdpcm, n: u8) -> Sdpcm
-    ensures { λ r. ⌜ r ≡ to.setFlow s n ⌝ }
-{
-    let mut t = s;
-    t.wlan_flow_control = n;
-    t
+    Sdpcm {
+        packet_tx_seq: s.packet_tx_seq,
+        last_bus_data_credit: credit,
+        wlan_flow_control: flow,
+        requested_ioctl_id: s.requested_ioctl_id,
+        had_successful_packet: s.had_successful_packet,
+    }
 }
 
 pub fn set_id(s: Sdpcm, n: u8) -> Sdpcm
@@ -111,16 +84,6 @@ pub fn set_mark(s: Sdpcm, b: bool) -> Sdpcm
     let mut t = s;
     t.had_successful_packet = b;
     t
-}
-
-pub fn set_reply(p: Pending, x: PendingResp) -> Pending
-    ensures { λ r. ⌜ r ≡ to.setReply p x ⌝ }
-{
-    let rx = p.rx;
-    Pending {
-        ioctl_resp: x,
-        rx: rx,
-    }
 }
 
 pub fn set_frame(p: Pending, x: PendingRx) -> Pending
@@ -152,20 +115,6 @@ pub fn set_failure(l: Link, f: ConnectFailure) -> Link
 {
     let s = l.state;
     let a = l.current_auth;
-    let t = l.disconnect_started_tick;
-    Link {
-        state: s,
-        connect_failure: f,
-        current_auth: a,
-        disconnect_started_tick: t,
-    }
-}
-
-pub fn set_auth(l: Link, a: WifiAuth) -> Link
-    ensures { λ r. ⌜ r ≡ to.setAuth l a ⌝ }
-{
-    let s = l.state;
-    let f = l.connect_failure;
     let t = l.disconnect_started_tick;
     Link {
         state: s,

@@ -54,7 +54,7 @@ pub fn get_le32(s: &[u8], at: usize) -> u32
 }
 
 // The same where all four are there.
-fn get_whole(s: &[u8], at: usize) -> u32
+pub fn get_whole(s: &[u8], at: usize) -> u32
     requires { ⌜ at + 4 ≤ length (now s) ⌝ }
     ensures { λ r. ⌜ r ≡ le32At (now (s .entry)) at ⌝ }
 {

@@ -17,7 +17,7 @@ same-length-2 : tie.Need-same-length-2
 same-length-2 c = search needs
 
 returns-2 : tie.Need-returns-2
-returns-2 c = search needs
+returns-2 c = (long-event _ _ _ (omega arith) (c .before .before .before .before .handle-far .ensures .0), c .before .before .before .before .handle-far .ensures .1)
 
 handle-there-requires : tie.Need-handle-there-requires
 handle-there-requires c κs = (c .before .before .before .before .before .before .before .pre .0, (c .before .before .before .before .before .before .before .pre .1 .0, (c .before .before .before .before .before .before .before .pre .1 .1, (omega arith, omega arith))))

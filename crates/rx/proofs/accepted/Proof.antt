@@ -1,42 +1,25 @@
+use Rattle.rx.proofs.Laws.{accepted-is}
 use borrow.Author.Needs.{needs}
-use mathlib.Core.Path.{sym, _∙_}
-use Rattle.rx.proofs.Laws.{accepted-not, accepted-is}
 use Rattle.rx.proofs.accepted.Statement.{statement}
 use Rattle.rx.proofs.accepted.Tie as tie
 
-byte-at-requires : tie.Need-byte-at-requires
-byte-at-requires c κs = search needs
+shared-slice-read-set-flow-credit : tie.Need-shared-slice-read-set-flow-credit
+shared-slice-read-set-flow-credit c = search needs
 
-set-flow-requires : tie.Need-set-flow-requires
-set-flow-requires c κs = search needs
+credit-after-requires : tie.Need-credit-after-requires
+credit-after-requires c κs = search needs
 
-credits-requires : tie.Need-credits-requires
-credits-requires c κs = search needs
-
-byte-at-requires-2 : tie.Need-byte-at-requires-2
-byte-at-requires-2 c κs = search needs
-
-set-credit-requires : tie.Need-set-credit-requires
-set-credit-requires c κs = search needs
+set-flow-credit-requires : tie.Need-set-flow-credit-requires
+set-flow-credit-requires c κs = search needs
 
 returns : tie.Need-returns
-returns c =
-    let a = c .before .before .before .before .before .before .before .args in
-    accepted-is (a .buf .now) (a .s) _ _ _ _ (sym (c .before .before .before .credits .ensures) ∙ c .before .before .if1 .taken) (c .before .before .before .before .before .byte-at .ensures) (c .before .before .before .before .set-flow .ensures) (c .before .byte-at2 .ensures) (c .set-credit .ensures)
-
-returns-2 : tie.Need-returns-2
-returns-2 c =
-    let a = c .before .before .before .before .before .args in
-    accepted-not (a .buf .now) (a .s) _ _ (sym (c .before .credits .ensures) ∙ c .if1 .left) (c .before .before .before .byte-at .ensures) (c .before .before .set-flow .ensures)
+returns c = let a = c .before .before .before .before .args in accepted-is (a .buf .now) (a .s) (c .before .credit-after .result) _ (c .before .credit-after .ensures) (c .set-flow-credit .ensures)
 
 pub accepted-spec : {M : Type 1} → statement M
 accepted-spec =
     tie.close
     (tie.spec
-    byte-at-requires
-    set-flow-requires
-    credits-requires
-    byte-at-requires-2
-    set-credit-requires
-    returns
-    returns-2)
+    shared-slice-read-set-flow-credit
+    credit-after-requires
+    set-flow-credit-requires
+    returns)

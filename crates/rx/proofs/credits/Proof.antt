@@ -1,5 +1,5 @@
-use borrow.Author.Needs.{needs}
 use Rattle.rx.proofs.Laws.{credits-not, credits-by}
+use borrow.Author.Needs.{needs}
 use Rattle.rx.proofs.credits.Statement.{statement}
 use Rattle.rx.proofs.credits.Tie as tie
 
@@ -9,8 +9,8 @@ channel-in-requires c κs = search needs
 returns : tie.Need-returns
 returns c = let a = c .before .before .before .args in credits-not (a .buf .now) (a .s) (search needs)
 
-byte-at-requires : tie.Need-byte-at-requires
-byte-at-requires c κs = search needs
+shared-slice-read-credit-step : tie.Need-shared-slice-read-credit-step
+shared-slice-read-credit-step c = search needs
 
 credit-step-requires : tie.Need-credit-step-requires
 credit-step-requires c κs = search needs
@@ -21,4 +21,9 @@ returns-2 c = let a = c .before .before .before .before .before .args in credits
 pub credits-spec : {M : Type 1} → statement M
 credits-spec =
     tie.close
-    (tie.spec channel-in-requires returns byte-at-requires credit-step-requires returns-2)
+    (tie.spec
+    channel-in-requires
+    returns
+    shared-slice-read-credit-step
+    credit-step-requires
+    returns-2)

@@ -1,22 +1,34 @@
-use borrow.Author.Needs.{needs}
+use mathlib.Core.Path.{_∙_, ap}
+use Rattle.wlan.specs.declared.Received.{Received}
+use Rattle.rx.specs.Packets.{receivedBy}
 use Rattle.rx.proofs.Laws.{data-small, data-header, data-short, data-is}
+use borrow.Author.Needs.{needs}
 use Rattle.rx.proofs.data_of.Statement.{statement}
 use Rattle.rx.proofs.data_of.Tie as tie
 
+none-requires : tie.Need-none-requires
+none-requires c κs = search needs
+
 returns : tie.Need-returns
-returns c = let a = c .before .before .args in data-small (a .buf .now) (a .size) (a .h) (search needs)
+returns c = let a = c .before .before .before .args in c .none .ensures ∙ ap Received.Packet (data-small (a .buf .now) (a .size) (a .h) (search needs))
 
 add-if2 : tie.Need-add-if2
 add-if2 c = search needs
 
+none-requires-2 : tie.Need-none-requires-2
+none-requires-2 c κs = search needs
+
 returns-2 : tie.Need-returns-2
-returns-2 c = let a = c .before .before .before .args in data-header (a .buf .now) (a .size) (a .h) (search needs) (search needs)
+returns-2 c = let a = c .before .before .before .before .args in c .none2 .ensures ∙ ap Received.Packet (data-header (a .buf .now) (a .size) (a .h) (search needs) (search needs))
 
-add-byte-at : tie.Need-add-byte-at
-add-byte-at c = search needs
+add-wide : tie.Need-add-wide
+add-wide c = search needs
 
-byte-at-requires : tie.Need-byte-at-requires
-byte-at-requires c κs = search needs
+shared-slice-read-wide : tie.Need-shared-slice-read-wide
+shared-slice-read-wide c = search needs
+
+wide-requires : tie.Need-wide-requires
+wide-requires c κs = search needs
 
 cast-words : tie.Need-cast-words
 cast-words c = search needs
@@ -30,38 +42,44 @@ mul-p c = search needs
 add-p-2 : tie.Need-add-p-2
 add-p-2 c = search needs
 
+none-requires-3 : tie.Need-none-requires-3
+none-requires-3 c κs = search needs
+
 returns-3 : tie.Need-returns-3
-returns-3 c = let a = c .before .before .before .before .before .args in data-short (a .buf .now) (a .size) (a .h) (search needs) (search needs) (search needs)
+returns-3 c = let a = c .before .before .before .before .before .before .before .args in c .none3 .ensures ∙ ap Received.Packet (data-short (a .buf .now) (a .size) (a .h) (search needs) (search needs) (search needs))
 
-add-byte-at-2 : tie.Need-add-byte-at-2
-add-byte-at-2 c = search needs
+add-interface-of : tie.Need-add-interface-of
+add-interface-of c = search needs
 
-byte-at-requires-2 : tie.Need-byte-at-requires-2
-byte-at-requires-2 c κs = search needs
+shared-slice-read-interface-of : tie.Need-shared-slice-read-interface-of
+shared-slice-read-interface-of c = search needs
 
 interface-of-requires : tie.Need-interface-of-requires
 interface-of-requires c κs = search needs
 
 returns-4 : tie.Need-returns-4
-returns-4 c =
-    let a = c .before .before .before .before .before .before .before .args in
-    data-is (a .buf .now) (a .size) (a .h) _ _ _ (search needs) (search needs) (search needs) (search needs) (search needs) (c .interface-of .ensures)
+unfolding receivedBy
+returns-4 c = let a = c .before .before .before .before .before .before .before .before .args in ap Received.Packet (data-is (a .buf .now) (a .size) (a .h) _ _ _ (search needs) (search needs) (search needs) (search needs) (search needs) (c .interface-of .ensures))
 
 pub data-of-spec : {M : Type 1} → statement M
 data-of-spec =
     tie.close
     (tie.spec
+    none-requires
     returns
     add-if2
+    none-requires-2
     returns-2
-    add-byte-at
-    byte-at-requires
+    add-wide
+    shared-slice-read-wide
+    wide-requires
     cast-words
     add-p
     mul-p
     add-p-2
+    none-requires-3
     returns-3
-    add-byte-at-2
-    byte-at-requires-2
+    add-interface-of
+    shared-slice-read-interface-of
     interface-of-requires
     returns-4)

@@ -1,5 +1,5 @@
-use borrow.Author.Needs.{needs}
 use Rattle.rx.proofs.Laws.{packet-not, packet-by}
+use borrow.Author.Needs.{needs}
 use Rattle.rx.proofs.is_packet.Statement.{statement}
 use Rattle.rx.proofs.is_packet.Tie as tie
 

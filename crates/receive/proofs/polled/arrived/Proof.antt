@@ -1,19 +1,10 @@
 use mathlib.Core.Path.{sym, _∙_}
 use Rattle.device.specs.Poll.{arrivedStep}
 use Rattle.device.specs.Meaning.{arrivalOf}
-use Rattle.receive.proofs.Laws.{changed}
+use Rattle.receive.proofs.Laws.{processed}
 use borrow.Author.Needs.{needs}
 use Rattle.receive.proofs.polled.arrived.Statement.{statement}
 use Rattle.receive.proofs.polled.arrived.Tie as tie
-use Rattle.receive.proofs.polled.arrived.Reads as reads
-use Rattle.receive.proofs.polled.arrived.Lts as lts
-use Rattle.places.proofs.read.sdpcm_at.Reads as sdpcm-at-reads
-use Rattle.places.proofs.write.put_sdpcm.Reads as put-sdpcm-reads
-use Rattle.receive.proofs.polled.received.Reads as received-reads
-use Rattle.receive.proofs.polled.unmarked.Reads as unmarked-reads
-use Rattle.rx.proofs.sdpcm_process_rx_packet.Reads as sdpcm-process-rx-packet-reads
-use Rattle.sdpcm.proofs.header.blank.Reads as blank-reads
-use Rattle.wlan.proofs.setters.set_mark.Reads as set-mark-reads
 
 blank-requires : tie.Need-blank-requires
 blank-requires c κs = search needs
@@ -48,7 +39,7 @@ same-length-2 c = search needs
 
 returns-2 : tie.Need-returns-2
 unfolding arrivedStep arrivalOf
-returns-2 c = simp (sym (c .before .before .before .before .before .before .before .before .before .before .before .blank .ensures) ∙ c .before .before .before .before .before .before .before .before .before .before .if1 .left) (rw (c .before .before .before .before .before .before .sdpcm-process-rx-packet .ensures, c .before .before .before .before .before .before .before .set-mark .ensures, c .before .before .before .before .before .before .before .before .sdpcm-at .ensures) at (changed _ (c .before .before .before .put-sdpcm .ensures) (c .received .ensures _)))
+returns-2 c = simp (sym (c .before .before .before .before .before .before .before .before .before .before .before .before .blank .ensures) ∙ c .before .before .before .before .before .before .before .before .before .before .before .if1 .left) (processed (c .before .before .before .before .before .before .before .sdpcm-process-rx-packet .result) _ (c .before .before .before .put-sdpcm .ensures) (c .received .ensures) (rw (c .before .before .before .before .before .before .before .before .set-mark .ensures, c .before .before .before .before .before .before .before .before .before .sdpcm-at .ensures) at (c .before .before .before .before .before .before .before .sdpcm-process-rx-packet .ensures)))
 
 pub arrived-spec : {M : Type 1} → statement M
 arrived-spec =

@@ -58,11 +58,11 @@ arrived-requires c κs = search needs
 
 returns : tie.Need-returns
 unfolding pollAnswer valuedStep pointBy
-returns c = simp (c .before .enum-told .given .1) (still _ (c .before .before .before .before .before .pre) (c .interrupt-read .ensures _))
+returns c = simp (c .before .enum-told .given .1) (still _ (c .before .before .before .before .before .pre .0) (c .interrupt-read .ensures _))
 
 returns-2 : tie.Need-returns-2
 unfolding pollAnswer valuedStep pointBy
-returns-2 c = simp (c .before .enum-told2 .given .1) (still _ (c .before .before .before .before .before .pre) (c .acknowledged .ensures _))
+returns-2 c = simp (c .before .enum-told2 .given .1) (still _ (c .before .before .before .before .before .pre .0) (c .acknowledged .ensures _))
 
 same-length : tie.Need-same-length
 same-length c = search needs
@@ -73,7 +73,7 @@ returns-3 c = simp (c .before .before .before .before .enum-told3 .given .1) (c 
 
 returns-4 : tie.Need-returns-4
 unfolding pollAnswer valuedStep pointBy
-returns-4 c = simp (c .before .enum-told4 .given .1) (still _ (c .before .before .before .before .before .pre) (c .waited .ensures _))
+returns-4 c = simp (c .before .enum-told4 .given .1) (still _ (c .before .before .before .before .before .pre .0) (c .waited .ensures _))
 
 same-length-2 : tie.Need-same-length-2
 same-length-2 c = search needs

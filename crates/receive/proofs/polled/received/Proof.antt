@@ -1,34 +1,19 @@
-use mathlib.Core.Path.{refl}
-use Rattle.device.specs.Poll.{gotStep}
-use Rattle.receive.specs.Receive.{nextBy}
+use mathlib.Core.Path.{_≡_}
+use mir.Syntax.{w32}
+use mir.Val.{toZ, ofZ}
+use Rattle.receive.proofs.Laws.{came-is}
 use borrow.Author.Needs.{needs}
 use Rattle.receive.proofs.polled.received.Statement.{statement}
 use Rattle.receive.proofs.polled.received.Tie as tie
-use Rattle.receive.proofs.polled.received.Reads as reads
-use Rattle.receive.proofs.polled.received.Lts as lts
-use Rattle.receive.proofs.polled.came.Reads as came-reads
-use Rattle.receive.proofs.polled.got.Reads as got-reads
 
-enum-known-p : tie.Need-enum-known-p
-enum-known-p c = search needs
-
-got-requires : tie.Need-got-requires
-got-requires c κs = search needs
-
-enum-told : tie.Need-enum-told
-enum-told c = search needs
+polled-kind-requires : tie.Need-polled-kind-requires
+polled-kind-requires c κs = search needs
 
 came-requires : tie.Need-came-requires
 came-requires c κs = search needs
 
 returns : tie.Need-returns
-unfolding gotStep
-returns c = λ s. simp (c .before .before .p .given .1, c .got .ensures)
-
-returns-2 : tie.Need-returns-2
-unfolding gotStep nextBy
-returns-2 c = λ s. simp (c .before .enum-told .given .1, c .came .ensures)
+returns c = λ s. let p = c .before .before .before .args .p in let e : toZ w32 (ofZ w32 (p .status)) ≡ p .status = search needs in rw (c .came .ensures, c .before .before .polled-kind .ensures, e) (came-is (p .kind) (p .offset) (p .len) (p .status) (p .interface) s)
 
 pub received-spec : {M : Type 1} → statement M
-received-spec =
-    tie.close (tie.spec enum-known-p got-requires enum-told came-requires returns returns-2)
+received-spec = tie.close (tie.spec polled-kind-requires came-requires returns)

@@ -1,7 +1,7 @@
-use borrow.Author.Needs.{needs}
 use borrow.Author.Tests.{eq-eqb, ne-eqb}
-use Rattle.sdpcm.proofs.header.blank.Statement.{statement}
-use Rattle.sdpcm.proofs.header.blank.Tie as tie
+use borrow.Author.Needs.{needs}
+use Rattle.rx.proofs.blank.Statement.{statement}
+use Rattle.rx.proofs.blank.Tie as tie
 
 size-in-requires : tie.Need-size-in-requires
 size-in-requires c κs = search needs
