@@ -34,10 +34,34 @@ pub fn ioctl_ask(
     let k = p.kind;
     let q = p.at;
     match k {
-        IoctlKind::StallFirst => send_ask(stalls(SendKind::First, p), pos, len, undo, rec, log, buf),
-        IoctlKind::StallPolling => send_ask(stalls(SendKind::Polling, p), pos, len, undo, rec, log, buf),
+        IoctlKind::StallFirst => send_ask(
+            stalls(SendKind::First, p),
+            pos,
+            len,
+            undo,
+            rec,
+            log,
+            buf,
+        ),
+        IoctlKind::StallPolling => send_ask(
+            stalls(SendKind::Polling, p),
+            pos,
+            len,
+            undo,
+            rec,
+            log,
+            buf,
+        ),
         IoctlKind::StallLate => send_ask(stalls(SendKind::Late, p), pos, len, undo, rec, log, buf),
-        IoctlKind::StallWaited => send_ask(stalls(SendKind::Waited, p), pos, len, undo, rec, log, buf),
+        IoctlKind::StallWaited => send_ask(
+            stalls(SendKind::Waited, p),
+            pos,
+            len,
+            undo,
+            rec,
+            log,
+            buf,
+        ),
         IoctlKind::Ready => ask_status(pos, len, rec, log),
         IoctlKind::Writing => ask_write(p.n, pos, len, rec, log, buf),
         IoctlKind::First => ask_clock(pos, len, rec, log),
