@@ -5,8 +5,6 @@ use receive::polled::PollAt;
 use receive::polled::PollKind;
 use replying::IoctlAt;
 use replying::IoctlKind;
-use sending::SendAt;
-use sending::SendKind;
 use wlan::DriverError;
 ghost use mathlib.Core.Path.{_≡_};
 ghost use Rattle.control.specs.declared.CallNext as next;
@@ -49,21 +47,13 @@ fn nowhere() -> IoctlAt
 {
     IoctlAt {
         kind: IoctlKind::First,
-        send: SendAt {
-            kind: SendKind::First,
-            at: PollAt {
-                kind: PollKind::Interrupt,
-                n: 0,
-            },
-            t0: 0,
-            left: 0,
-            n: 0,
-        },
         at: PollAt {
             kind: PollKind::Interrupt,
             n: 0,
         },
         t0: 0,
+        left: 0,
+        n: 0,
     }
 }
 
@@ -86,32 +76,20 @@ pub fn exchange_at(g: Stage, p: IoctlAt) -> CallNow
     ensures { λ r. ⌜ at.nextOf r ≡ next.CallNext.Ask (point.CallPoint.Exchange g (reply.pointOf p)) ⌝ }
 {
     let kind = p.kind;
-    let s = p.send;
-    let s_kind = s.kind;
-    let q = s.at;
+    let q = p.at;
     let q_kind = q.kind;
-    let r = p.at;
-    let r_kind = r.kind;
     CallNow {
         kind: CallKind::Exchange,
         stage: g,
         at: IoctlAt {
             kind: kind,
-            send: SendAt {
-                kind: s_kind,
-                at: PollAt {
-                    kind: q_kind,
-                    n: q.n,
-                },
-                t0: s.t0,
-                left: s.left,
-                n: s.n,
-            },
             at: PollAt {
-                kind: r_kind,
-                n: r.n,
+                kind: q_kind,
+                n: q.n,
             },
             t0: p.t0,
+            left: p.left,
+            n: p.n,
         },
         pause: PauseKind::AfterUp,
         ns: 0,

@@ -2,17 +2,12 @@
 use Prim.Native.Nat.{ℕ}
 use mathlib.Core.Path.{_≡_, refl, ap, _∙_}
 use mathlib.Core.Bool.{Bool, true, false, true≢false}
-use mathlib.Core.List.{List, []}
-use lib.Dec.{ltb}
-use Rattle.slices.specs.Pick.{pick}
-use Rattle.slices.specs.Le.{round4}
+use mathlib.Core.List.{List}
 use Rattle.wlan.specs.declared.AsyncEvent.{AsyncEvent}
 use Rattle.wlan.specs.declared.BusAnswer.{BusAnswer}
 use Rattle.wlan.specs.declared.DriverError.{DriverError}
 use Rattle.wlan.specs.declared.State.{State}
 use Rattle.definition.specs.Bus.{Bytes}
-use Rattle.definition.specs.Event.{eventOf}
-use Rattle.definition.specs.Send.{free}
 use Rattle.handling.specs.Handle.{handledOf, listHeard}
 use Rattle.device.specs.declared.Arrival.{Arrival}
 use Rattle.device.specs.Poll.{pollAnswer}
@@ -95,23 +90,16 @@ after-send {u} {v} {b} {m} {d} {c} {f} {n} {r} e x len k q =
 
 -- ---- the first step
 
-emit-unheard : (a : Bool) (s t : SendStep) → s .heard ≡ false → t .heard ≡ false → pick a s t .heard ≡ false
-emit-unheard true s t h g = h
-emit-unheard false s t h g = g
+-- n: what is next once the header is laid and the sequence number spent
+pub emitted : {u v b d : List ℕ} {c f : Bytes} {o : OutPacket} {r : IoctlNow} {n : IoctlNext} → send.Spends u v b d c f o
+    → headerIn n ≡ snd.putOf (sessionIn b .st) o → nextOf r (snd.putOf (sessionIn b .st) o) ≡ n → Starts u v b d c f r (to.step (snd.spending (sessionIn b .st)) false n)
+emitted w i e = record { next = rw i e; laid = rw i (w .laid); held = w .held; kept = w .kept; session = w .session; buf = w .buf }
 
-send-unheard : (s : State) (o : OutPacket) → snd.startStep s o .heard ≡ false
-unfolding snd.startStep snd.emitStep
-send-unheard s o = emit-unheard (free s) _ _ (emit-unheard (ltb 2040 (round4 (o .size))) _ _ refl refl) refl
-
-pub started : {u v b m d : List ℕ} {c f : Bytes} {n : SendNow} {r : IoctlNow} (len : ℕ)
-    → ((e : AsyncEvent) → send.Sends u v b m c f n e (snd.startStep (sessionIn b .st) (to.outOf len))) → Sent m d n r len → Starts u v b d c f r (firstStep (sessionIn b .st) len)
-unfolding listHeard
-started {u} {v} {b} {m} {d} {c} {f} {n} {r} len w q =
-    let e = eventOf [] 0 in
-    let x = snd.startStep (sessionIn b .st) (to.outOf len) in
-    let g : Replies u v b d c f r e (to.sendingStep x len) = after-send e x len (w e) q in
-    let z : to.sendingStep x len .heard ≡ false = sent-by e x len (w e) q .heard ∙ send-unheard (sessionIn b .st) (to.outOf len) in
-    record { next = g .next; laid = g .laid; held = rw z at (g .held); kept = g .kept; session = g .session; buf = g .buf }
+-- nothing is laid
+pub unemitted : {u b : List ℕ} {c : Bytes} {r : IoctlNow} {s : IoctlStep} → Kept u → isSession b ≡ true → s ≡ stays (sessionIn b .st) false r → Starts u u b b c c r s
+unfolding laidHeader
+unemitted {u} {b} {c} {r} k hb e =
+    rw e (record { next = ap (λ (x : HeaderPut). nextOf r x) (none-laid (r .kind) r); laid = rw (none-laid (r .kind) r); held = record { known = hb; back = refl }; kept = k; session = refl; buf = refl })
 
 -- the id was spent before
 pub numbered : {u v b m d : List ℕ} {c f : Bytes} {r : IoctlNow} (len : ℕ) → Kept u → isSession b ≡ true → Numbered b m

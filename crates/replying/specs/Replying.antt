@@ -26,7 +26,6 @@ use Rattle.places.specs.Places.{Holds}
 use Rattle.receive.specs.declared.polled.PollAt.{PollAt}
 use Rattle.receive.specs.Receive as poll
 use Rattle.undo.specs.Undo.{Kept, backSession, backBuf}
-use Rattle.sending.specs.declared.SendAt.{SendAt}
 use Rattle.sending.specs.declared.SendKind.{SendKind}
 use Rattle.sending.specs.Sending as send
 use Rattle.replying.specs.declared.IoctlAt.{IoctlAt}
@@ -36,19 +35,20 @@ use Rattle.replying.specs.declared.IoctlNowKind.{IoctlNowKind}
 
 -- ---- the flat values
 
-unfoldable pub pointBy : IoctlKind → SendAt → PollAt → ℕ → IoctlPoint
-pointBy IoctlKind.Sending p q t0 = IoctlPoint.Sending (send.pointOf p)
-pointBy IoctlKind.First p q t0 = IoctlPoint.First
-pointBy IoctlKind.Test p q t0 = IoctlPoint.Test t0
-pointBy IoctlKind.Polling p q t0 = IoctlPoint.Polling t0 (poll.pointOf q)
-pointBy IoctlKind.Waited p q t0 = IoctlPoint.Waited t0
+unfoldable pub pointBy : IoctlKind → PollAt → ℕ → ℕ → ℕ → IoctlPoint
+pointBy IoctlKind.StallFirst q t0 left n = IoctlPoint.Sending (send.pointBy SendKind.First q t0 left n)
+pointBy IoctlKind.StallPolling q t0 left n = IoctlPoint.Sending (send.pointBy SendKind.Polling q t0 left n)
+pointBy IoctlKind.StallLate q t0 left n = IoctlPoint.Sending (send.pointBy SendKind.Late q t0 left n)
+pointBy IoctlKind.StallWaited q t0 left n = IoctlPoint.Sending (send.pointBy SendKind.Waited q t0 left n)
+pointBy IoctlKind.Ready q t0 left n = IoctlPoint.Sending (send.pointBy SendKind.Ready q t0 left n)
+pointBy IoctlKind.Writing q t0 left n = IoctlPoint.Sending (send.pointBy SendKind.Writing q t0 left n)
+pointBy IoctlKind.First q t0 left n = IoctlPoint.First
+pointBy IoctlKind.Test q t0 left n = IoctlPoint.Test t0
+pointBy IoctlKind.Polling q t0 left n = IoctlPoint.Polling t0 (poll.pointOf q)
+pointBy IoctlKind.Waited q t0 left n = IoctlPoint.Waited t0
 
 abbrev pub pointOf : IoctlAt → IoctlPoint
-pointOf p = pointBy (p .kind) (p .send) (p .at) (p .t0)
-
--- where nothing is sent
-abbrev pub unsent : SendAt
-unsent = record { kind = SendKind.First; at = send.unpolled; t0 = 0; left = 0; n = 0 }
+pointOf p = pointBy (p .kind) (p .at) (p .t0) (p .left) (p .n)
 
 abbrev pub copied : ℕ → ℕ → Copied
 copied offset n = record { offset = offset; count = n }

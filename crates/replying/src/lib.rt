@@ -18,8 +18,9 @@ use sending::SendAt;
 use sending::SendKind;
 use sending::SendNow;
 use sending::SentKind;
+use sending::emit_header;
+use sending::is_free;
 use sending::send_answer;
-use sending::send_start;
 use wlan::DriverError;
 use wlan::PendingIoctlResp;
 use wlan::PendingResp;
@@ -36,7 +37,7 @@ ghost use Rattle.definition.specs.Send.{responseOf};
 ghost use Rattle.device.specs.Poll.{pollOp};
 ghost use Rattle.device.specs.Meaning.{arrivalAt, Tells};
 ghost use Rattle.send.specs.declared.HeaderPut.{HeaderPut};
-ghost use Rattle.send.specs.Send.{readyStep};
+ghost use Rattle.send.specs.Send.{emitStep, readyStep};
 ghost use Rattle.ioctl.specs.declared.IoctlNext as next;
 ghost use Rattle.ioctl.specs.declared.IoctlPoint.{IoctlPoint};
 ghost use Rattle.ioctl.specs.Ioctl as to;
@@ -46,20 +47,28 @@ ghost use Rattle.undo.specs.Undo.{Kept};
 ghost use Rattle.sending.specs.Sending as send;
 ghost use Rattle.replying.specs.Replying as at;
 
+// A send's point or the exchange's own: the stall before the write, the status and the write, then the wait for the reply.
 pub enum IoctlKind {
-    Sending,
+    StallFirst,
+    StallPolling,
+    StallLate,
+    StallWaited,
+    Ready,
+    Writing,
     First,
     Test,
     Polling,
     Waited,
 }
 
-// Where an exchange waits. send: the send's operation; at: the operation of a poll for the reply; t0: the clock at the wait's start.
+// Where an exchange waits. at: the operation of a stall's poll or of a poll for the reply; t0: the clock at the start of a stall or of the
+// wait for the reply; left: how many status reads are left; n: the packet's length.
 pub struct IoctlAt {
     pub kind: IoctlKind,
-    pub send: SendAt,
     pub at: PollAt,
     pub t0: u64,
+    pub left: u16,
+    pub n: u16,
 }
 
 pub enum IoctlNowKind {
@@ -86,28 +95,17 @@ fn unpolled() -> PollAt
     }
 }
 
-fn unsent() -> SendAt
-    ensures { λ r. ⌜ r ≡ at.unsent ⌝ }
-{
-    SendAt {
-        kind: SendKind::First,
-        at: unpolled(),
-        t0: 0,
-        left: 0,
-        n: 0,
-    }
-}
-
-fn asks(kind: IoctlKind, p: SendAt, q: PollAt, t0: u64) -> IoctlNow
-    ensures { λ r. ⌜ ((h : HeaderPut) → at.nextOf r h ≡ next.IoctlNext.Ask h (at.pointBy kind p q t0)) ⌝ }
+fn asks(kind: IoctlKind, q: PollAt, t0: u64, left: u16, n: u16) -> IoctlNow
+    ensures { λ r. ⌜ ((h : HeaderPut) → at.nextOf r h ≡ next.IoctlNext.Ask h (at.pointBy kind q t0 left n)) ⌝ }
 {
     IoctlNow {
         kind: IoctlNowKind::Ask,
         at: IoctlAt {
             kind: kind,
-            send: p,
             at: q,
             t0: t0,
+            left: left,
+            n: n,
         },
         offset: 0,
         count: 0,
@@ -115,11 +113,11 @@ fn asks(kind: IoctlKind, p: SendAt, q: PollAt, t0: u64) -> IoctlNow
     }
 }
 
-// A point outside the send and outside a poll.
-fn waits(kind: IoctlKind, t0: u64) -> IoctlNow
-    ensures { λ r. ⌜ ((h : HeaderPut) → at.nextOf r h ≡ next.IoctlNext.Ask h (at.pointBy kind at.unsent send.unpolled t0)) ⌝ }
+// A point outside a poll.
+fn waits(kind: IoctlKind, t0: u64, left: u16, n: u16) -> IoctlNow
+    ensures { λ r. ⌜ ((h : HeaderPut) → at.nextOf r h ≡ next.IoctlNext.Ask h (at.pointBy kind send.unpolled t0 left n)) ⌝ }
 {
-    asks(kind, unsent(), unpolled(), t0)
+    asks(kind, unpolled(), t0, left, n)
 }
 
 fn ended(kind: IoctlNowKind, offset: u16, n: u16, e: DriverError) -> IoctlNow
@@ -129,9 +127,10 @@ fn ended(kind: IoctlNowKind, offset: u16, n: u16, e: DriverError) -> IoctlNow
         kind: kind,
         at: IoctlAt {
             kind: IoctlKind::First,
-            send: unsent(),
             at: unpolled(),
             t0: 0,
+            left: 0,
+            n: 0,
         },
         offset: offset,
         count: n,
@@ -191,11 +190,27 @@ fn sent(s: &mut [u8], len: u16) -> IoctlNow
 {
     let resp = reply_at(s);
     match resp {
-        PendingResp::None => waits(IoctlKind::First, 0),
+        PendingResp::None => waits(IoctlKind::First, 0, 0, 0),
         PendingResp::Some(p) => {
             put_reply(s, PendingResp::None);
             finish_stored(len, p)
         }
+    }
+}
+
+// A point of the send.
+fn sends(p: SendAt) -> IoctlNow
+    ensures { λ r. ⌜ ((h : HeaderPut) → at.nextOf r h ≡ next.IoctlNext.Ask h (IoctlPoint.Sending (send.pointOf p))) ⌝ }
+{
+    let k = p.kind;
+    let q = p.at;
+    match k {
+        SendKind::First => asks(IoctlKind::StallFirst, q, p.t0, p.left, p.n),
+        SendKind::Polling => asks(IoctlKind::StallPolling, q, p.t0, p.left, p.n),
+        SendKind::Late => asks(IoctlKind::StallLate, q, p.t0, p.left, p.n),
+        SendKind::Waited => asks(IoctlKind::StallWaited, q, p.t0, p.left, p.n),
+        SendKind::Ready => asks(IoctlKind::Ready, q, p.t0, p.left, p.n),
+        SendKind::Writing => asks(IoctlKind::Writing, q, p.t0, p.left, p.n),
     }
 }
 
@@ -208,7 +223,7 @@ fn sending_next(s: &mut [u8], n: SendNow, len: u16) -> IoctlNow
     let p = n.at;
     let e = n.error;
     match k {
-        SentKind::Ask => asks(IoctlKind::Sending, p, unpolled(), 0),
+        SentKind::Ask => sends(p),
         SentKind::Sent => sent(s, len),
         SentKind::Refused => refuse(e),
     }
@@ -222,6 +237,22 @@ fn number(s: &mut [u8])
     put_sdpcm(s, next_id(sdpcm_at(s)));
 }
 
+// The request's header is laid and the sequence number spent; a packet above 2,040 bytes goes no further.
+fn emit(s: &mut [u8], undo: &mut [u8], buf: &mut [u8], len: u16) -> IoctlNow
+    requires { ⌜ isSession (now s) ≡ true ⌝ }
+    requires { ⌜ Kept (now undo) ⌝ }
+    requires { ⌜ length (now buf) ≡ 2048 ⌝ }
+    ensures { λ r. ⌜ at.Starts (now (undo .entry)) (now (undo .exit)) (now (s .entry)) (now (s .exit)) (now (buf .entry)) (now (buf .exit)) r (to.sendingStep (emitStep (sessionIn (now (s .entry)) .st) false (to.outOf len)) len) ⌝ }
+{
+    let out = out_of(len);
+    let size = out.size;
+    emit_header(s, undo, buf, out);
+    if 2040 < size {
+        return refuse(DriverError::InvalidArg);
+    }
+    waits(IoctlKind::Ready, 0, 999, (size + 3) / 4 * 4)
+}
+
 // The send begins.
 fn sending_start(s: &mut [u8], undo: &mut [u8], buf: &mut [u8], len: u16) -> IoctlNow
     requires { ⌜ isSession (now s) ≡ true ⌝ }
@@ -229,8 +260,10 @@ fn sending_start(s: &mut [u8], undo: &mut [u8], buf: &mut [u8], len: u16) -> Ioc
     requires { ⌜ length (now buf) ≡ 2048 ⌝ }
     ensures { λ r. ⌜ at.Starts (now (undo .entry)) (now (undo .exit)) (now (s .entry)) (now (s .exit)) (now (buf .entry)) (now (buf .exit)) r (at.firstStep (sessionIn (now (s .entry)) .st) len) ⌝ }
 {
-    let n = send_start(s, undo, buf, out_of(len));
-    sending_next(s, n, len)
+    if is_free(s) {
+        return emit(s, undo, buf, len);
+    }
+    waits(IoctlKind::StallFirst, 0, 0, 0)
 }
 
 // The id is spent, and the send begins.
@@ -256,14 +289,14 @@ fn reply_next(s: &mut [u8], undo: &mut [u8], buf: &[u8], len: u16, t0: u64, r: P
     let offset = r.offset;
     let n = r.len;
     match k {
-        PolledKind::Ask => asks(IoctlKind::Polling, unsent(), q, t0),
-        PolledKind::None => waits(IoctlKind::Waited, t0),
+        PolledKind::Ask => asks(IoctlKind::Polling, q, t0, 0, 0),
+        PolledKind::None => waits(IoctlKind::Waited, t0, 0, 0),
         PolledKind::Control => finish(len, offset, n, r.status),
         PolledKind::AsyncEvent => {
             handle_async_event(s, undo, buf, offset, n);
-            waits(IoctlKind::Waited, t0)
+            waits(IoctlKind::Waited, t0, 0, 0)
         }
-        PolledKind::Data => waits(IoctlKind::Waited, t0),
+        PolledKind::Data => waits(IoctlKind::Waited, t0, 0, 0),
         PolledKind::HeaderBeyond => refuse(DriverError::EventHeader),
     }
 }
@@ -291,27 +324,10 @@ fn test_read(s: &[u8], t0: u64, t: u64) -> IoctlNow
     ensures { λ r. ⌜ to.testStep (sessionIn (now (s .entry)) .st) t0 t ≡ at.stays (sessionIn (now (s .entry)) .st) false r ⌝ }
 {
     if elapsed_us(t0, t) < 500_000 {
-        asks(IoctlKind::Polling, unsent(), poll_from(s), t0)
+        asks(IoctlKind::Polling, poll_from(s), t0, 0, 0)
     } else {
         refuse(DriverError::Timeout)
     }
-}
-
-fn send_at(kind: SendKind, left: u16, n: u16) -> IoctlNow
-    ensures { λ r. ⌜ ((h : HeaderPut) → at.nextOf r h ≡ next.IoctlNext.Ask h (IoctlPoint.Sending (send.pointBy kind send.unpolled 0 left n))) ⌝ }
-{
-    asks(
-        IoctlKind::Sending,
-        SendAt {
-            kind: kind,
-            at: unpolled(),
-            t0: 0,
-            left: left,
-            n: n,
-        },
-        unpolled(),
-        0,
-    )
 }
 
 // The status before the write.
@@ -319,15 +335,29 @@ fn ready_read(left: u16, n: u16, v: u32) -> IoctlNow
     ensures { λ r. ⌜ ((s : State) (len : ℕ) → to.sendingStep (readyStep s left n v) len ≡ at.stays s false r) ⌝ }
 {
     if f2_ready(v) {
-        return send_at(SendKind::Writing, 0, n);
+        return waits(IoctlKind::Writing, 0, 0, n);
     }
     if left == 0 {
         return refuse(DriverError::Timeout);
     }
-    send_at(SendKind::Ready, left - 1, n)
+    waits(IoctlKind::Ready, 0, left - 1, n)
 }
 
-// A point of the send's stall.
+// A point of the send's stall, as the send has it.
+pub fn stalls(kind: SendKind, p: IoctlAt) -> SendAt
+    ensures { λ r. ⌜ send.pointOf r ≡ send.pointBy kind (p .at) (p .t0) (p .left) (p .n) ⌝ }
+{
+    let q = p.at;
+    SendAt {
+        kind: kind,
+        at: q,
+        t0: p.t0,
+        left: p.left,
+        n: p.n,
+    }
+}
+
+// The value of an answer in the send's stall.
 fn stall_answer(
     s: &mut [u8],
     undo: &mut [u8],
@@ -345,31 +375,6 @@ fn stall_answer(
     sending_next(s, n, len)
 }
 
-// A send that need not wait has two answers: the status and the write.
-fn sending_answer(
-    s: &mut [u8],
-    undo: &mut [u8],
-    buf: &mut [u8],
-    len: u16,
-    q: SendAt,
-    v: u64,
-) -> IoctlNow
-    requires { ⌜ isSession (now s) ≡ true ⌝ }
-    requires { ⌜ Kept (now undo) ⌝ }
-    requires { ⌜ length (now buf) ≡ 2048 ⌝ }
-    ensures { λ r. ⌜ at.Replies (now (undo .entry)) (now (undo .exit)) (now (s .entry)) (now (s .exit)) (now (buf .entry)) (now (buf .exit)) r (at.sendArrival (send.pointOf q) (now (buf .entry)) (sessionIn (now (s .entry)) .st) .event) (to.sendingStep (at.sendStep (sessionIn (now (s .entry)) .st) len (send.pointOf q) v (now (buf .entry))) len) ⌝ }
-{
-    let k = q.kind;
-    match k {
-        SendKind::First => stall_answer(s, undo, buf, len, q, v),
-        SendKind::Polling => stall_answer(s, undo, buf, len, q, v),
-        SendKind::Late => stall_answer(s, undo, buf, len, q, v),
-        SendKind::Waited => stall_answer(s, undo, buf, len, q, v),
-        SendKind::Ready => ready_read(q.left, q.n, (v % 4294967296) as u32),
-        SendKind::Writing => sent(s, len),
-    }
-}
-
 // The operation, no wait, met a fault.
 pub fn ioctl_fault(place: u8) -> IoctlNow
     ensures { λ r. ⌜ ((h : HeaderPut) → at.nextOf r h ≡ next.IoctlNext.Refused h (error.DriverError.Fault place)) ⌝ }
@@ -377,7 +382,7 @@ pub fn ioctl_fault(place: u8) -> IoctlNow
     refuse(DriverError::Fault(place))
 }
 
-// The value of an answer to the operation at p.
+// The value of an answer to the operation at p. A send that need not wait has two: the status and the write.
 pub fn ioctl_answer(
     s: &mut [u8],
     undo: &mut [u8],
@@ -392,14 +397,18 @@ pub fn ioctl_answer(
     ensures { λ r. ⌜ at.Replies (now (undo .entry)) (now (undo .exit)) (now (s .entry)) (now (s .exit)) (now (buf .entry)) (now (buf .exit)) r (arrivalAt (to.ioctlOp (at.pointOf p)) (now (buf .entry)) (sessionIn (now (s .entry)) .st .sdpcm) .event) (to.ioctlAnswer (sessionIn (now (s .entry)) .st) len (at.pointOf p) (BusAnswer.Value v) (arrivalAt (to.ioctlOp (at.pointOf p)) (now (buf .entry)) (sessionIn (now (s .entry)) .st .sdpcm))) ⌝ }
 {
     let k = p.kind;
-    let send = p.send;
     let q = p.at;
     let t0 = p.t0;
     match k {
-        IoctlKind::Sending => sending_answer(s, undo, buf, len, send, v),
-        IoctlKind::First => waits(IoctlKind::Test, v),
+        IoctlKind::StallFirst => stall_answer(s, undo, buf, len, stalls(SendKind::First, p), v),
+        IoctlKind::StallPolling => stall_answer(s, undo, buf, len, stalls(SendKind::Polling, p), v),
+        IoctlKind::StallLate => stall_answer(s, undo, buf, len, stalls(SendKind::Late, p), v),
+        IoctlKind::StallWaited => stall_answer(s, undo, buf, len, stalls(SendKind::Waited, p), v),
+        IoctlKind::Ready => ready_read(p.left, p.n, (v % 4294967296) as u32),
+        IoctlKind::Writing => sent(s, len),
+        IoctlKind::First => waits(IoctlKind::Test, v, 0, 0),
         IoctlKind::Test => test_read(s, t0, v),
         IoctlKind::Polling => reply_poll(s, undo, buf, len, t0, q, v),
-        IoctlKind::Waited => waits(IoctlKind::Test, t0),
+        IoctlKind::Waited => waits(IoctlKind::Test, t0, 0, 0),
     }
 }

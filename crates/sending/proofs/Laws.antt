@@ -35,7 +35,7 @@ use Rattle.undo.proofs.Parts.{drop-over-past}
 use Rattle.arriving.specs.Arriving.{KeptFor, handledSession}
 use Rattle.sending.specs.declared.SendNow.{SendNow}
 use Rattle.sending.specs.declared.SentKind.{SentKind}
-use Rattle.sending.specs.Sending.{headerIn, nextBy, nextOf, Covered, Emits, Sends}
+use Rattle.sending.specs.Sending.{headerIn, nextBy, nextOf, Covered, Spends, Emits, Sends}
 
 -- ---- a fault
 
@@ -87,19 +87,15 @@ pub still : {u b : List ℕ} {c : Bytes} {r : SendNow} {h : Bool} {s : SendStep}
     → s ≡ to.step (sessionIn b .st) h (nextOf r HeaderPut.None) → Emits u u b b c c r h s
 still k hb e = changed k hb (record { known = hb; back = refl }) e
 
--- the state changed, and a header is laid
-pub laid : {u v b d : List ℕ} {c f : Bytes} {t : State} {r : SendNow} {h : Bool} {n : SendNext} (x : HeaderPut) → Kept u → isSession b ≡ true → Holds d (withState b t)
-    → f ≡ laidHeader x c → Covered u v c f → headerIn n ≡ x → nextOf r x ≡ n → Emits u v b d c f r h (to.step t h n)
-laid {u} {v} {b} {d} {c} {f} {t} x k hb hd l w i e =
-    record {
-      next = rw i e;
-      laid = rw i l;
-      held = hd;
-      heard = refl;
-      kept = w .kept;
-      session = w .session d ∙ front-kept u b t k hb hd;
-      buf = w .buf;
-    }
+-- a header is laid with the sequence number, which is spent
+pub spent : {u v b d : List ℕ} {c f : Bytes} {o : OutPacket} → Kept u → isSession b ≡ true → Holds d (withState b (to.spending (sessionIn b .st)))
+    → f ≡ laidHeader (to.putOf (sessionIn b .st) o) c → Covered u v c f → Spends u v b d c f o
+spent {u} {v} {b} {d} k hb hd l w =
+    record { laid = l; held = hd; kept = w .kept; session = w .session d ∙ front-kept u b (to.spending (sessionIn b .st)) k hb hd; buf = w .buf }
+
+pub emitted : {u v b d : List ℕ} {c f : Bytes} {o : OutPacket} {r : SendNow} {h : Bool} {n : SendNext} → Spends u v b d c f o
+    → headerIn n ≡ to.putOf (sessionIn b .st) o → nextOf r (to.putOf (sessionIn b .st) o) ≡ n → Emits u v b d c f r h (to.step (to.spending (sessionIn b .st)) h n)
+emitted w i e = record { next = rw i e; laid = rw i (w .laid); held = w .held; heard = refl; kept = w .kept; session = w .session; buf = w .buf }
 
 -- nothing was heard
 pub unheard : {u v b d : List ℕ} {c f : Bytes} {r : SendNow} {s : SendStep} (e : AsyncEvent) → Emits u v b d c f r false s → Sends u v b d c f r e s

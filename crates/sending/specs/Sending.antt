@@ -8,11 +8,12 @@ use Rattle.wlan.specs.declared.State.{State}
 use Rattle.definition.specs.Bus.{Bytes}
 use Rattle.handling.specs.Handle.{listHeard}
 use Rattle.send.specs.declared.HeaderPut.{HeaderPut}
+use Rattle.send.specs.declared.OutPacket.{OutPacket}
 use Rattle.send.specs.declared.SendNext.{SendNext}
 use Rattle.send.specs.declared.SendPoint.{SendPoint}
 use Rattle.send.specs.declared.SendStep.{SendStep}
 use Rattle.send.specs.declared.StallPoint.{StallPoint}
-use Rattle.send.specs.Send.{step}
+use Rattle.send.specs.Send.{step, spending, putOf}
 use Rattle.send.specs.Meaning.{laidHeader}
 use Rattle.session_bytes.specs.declared.session.Session.{Session}
 use Rattle.session_bytes.specs.Session.{sessionIn, withState}
@@ -67,6 +68,14 @@ stays s r = step s false (nextOf r HeaderPut.None)
 pub record Covered (u v : List ℕ) (c f : Bytes) : Type 0 where
   pub kept : Kept v
   pub session : (s : List ℕ) → backSession v s ≡ backSession u s
+  pub buf : backBuf v f ≡ backBuf u c
+
+-- a packet's header is laid, and its sequence number spent
+pub record Spends (u v b d : List ℕ) (c f : Bytes) (o : OutPacket) : Type 0 where
+  pub laid : f ≡ laidHeader (putOf (sessionIn b .st) o) c
+  pub held : Holds d (withState b (spending (sessionIn b .st)))
+  pub kept : Kept v
+  pub session : backSession v d ≡ backSession u b
   pub buf : backBuf v f ≡ backBuf u c
 
 -- a step that leaves the list, but for an event that it heard before

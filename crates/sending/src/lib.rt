@@ -146,7 +146,7 @@ pub fn is_free(s: &[u8]) -> bool
 }
 
 // Lays a packet's header at the front of the work buffer, whose bytes there are kept.
-pub fn lay_header(undo: &mut [u8], buf: &mut [u8], size: u16, seq: u8, channel: u8)
+fn lay_header(undo: &mut [u8], buf: &mut [u8], size: u16, seq: u8, channel: u8)
     requires { ⌜ Kept (now undo) ⌝ }
     requires { ⌜ length (now buf) ≡ 2048 ⌝ }
     ensures laid { λ _. ⌜ now (buf .exit) ≡ over (now (buf .entry)) 0 (header size seq channel) ⌝ }
@@ -156,18 +156,28 @@ pub fn lay_header(undo: &mut [u8], buf: &mut [u8], size: u16, seq: u8, channel: 
     put_header(buf, size, seq, channel);
 }
 
+// Lays the packet's header, and spends its sequence number.
+pub fn emit_header(s: &mut [u8], undo: &mut [u8], buf: &mut [u8], out: OutPacket)
+    requires { ⌜ isSession (now s) ≡ true ⌝ }
+    requires { ⌜ Kept (now undo) ⌝ }
+    requires { ⌜ length (now buf) ≡ 2048 ⌝ }
+    ensures { λ _. ⌜ at.Spends (now (undo .entry)) (now (undo .exit)) (now (s .entry)) (now (s .exit)) (now (buf .entry)) (now (buf .exit)) out ⌝ }
+{
+    let t = sdpcm_at(s);
+    let spent = next_seq(t);
+    put_sdpcm(s, spent);
+    lay_header(undo, buf, out.size, t.packet_tx_seq, out.channel);
+}
+
 // The header is laid and the sequence number spent; a packet above 2,040 bytes goes no further.
-pub fn emit(s: &mut [u8], undo: &mut [u8], buf: &mut [u8], out: OutPacket) -> SendNow
+fn emit(s: &mut [u8], undo: &mut [u8], buf: &mut [u8], out: OutPacket) -> SendNow
     requires { ⌜ isSession (now s) ≡ true ⌝ }
     requires { ⌜ Kept (now undo) ⌝ }
     requires { ⌜ length (now buf) ≡ 2048 ⌝ }
     ensures { λ r. ⌜ ((h : Bool) → at.Emits (now (undo .entry)) (now (undo .exit)) (now (s .entry)) (now (s .exit)) (now (buf .entry)) (now (buf .exit)) r h (to.emitStep (sessionIn (now (s .entry)) .st) h out)) ⌝ }
 {
-    let t = sdpcm_at(s);
     let size = out.size;
-    let spent = next_seq(t);
-    put_sdpcm(s, spent);
-    lay_header(undo, buf, size, t.packet_tx_seq, out.channel);
+    emit_header(s, undo, buf, out);
     if 2040 < size {
         return refuse(DriverError::InvalidArg);
     }

@@ -6,24 +6,25 @@ use Rattle.send.specs.declared.HeaderPut.{HeaderPut}
 use Rattle.send.specs.Send.{readyStep}
 use Rattle.ioctl.specs.Ioctl.{sendingStep, sendingNext}
 use Rattle.sending.specs.Sending as send
+use Rattle.replying.specs.Replying.{pointBy}
 use borrow.Author.Needs.{needs}
 use Rattle.replying.proofs.ready_read.Statement.{statement}
 use Rattle.replying.proofs.ready_read.Tie as tie
 use Rattle.replying.proofs.ready_read.Reads as reads
 use Rattle.replying.proofs.ready_read.Lts as lts
 use Rattle.replying.proofs.refuse.Reads as refuse-reads
-use Rattle.replying.proofs.send_at.Reads as send-at-reads
+use Rattle.replying.proofs.waits.Reads as waits-reads
 use Rattle.sdpcm.proofs.status.f2_ready.Reads as f2-ready-reads
 
 f2-ready-requires : tie.Need-f2-ready-requires
 f2-ready-requires c κs = search needs
 
-send-at-requires : tie.Need-send-at-requires
-send-at-requires c κs = search needs
+waits-requires : tie.Need-waits-requires
+waits-requires c κs = search needs
 
 returns : tie.Need-returns
-unfolding sendingStep sendingNext readyStep send.pointBy
-returns c = λ s len. simp (not-true (eqb (bitAnd (c .before .before .before .args .v) 0x20) 0) (sym (c .before .before .f2-ready .ensures) ∙ c .before .if1 .taken), c .send-at .ensures HeaderPut.None)
+unfolding sendingStep sendingNext readyStep pointBy send.pointBy
+returns c = λ s len. simp (not-true (eqb (bitAnd (c .before .before .before .args .v) 0x20) 0) (sym (c .before .before .f2-ready .ensures) ∙ c .before .if1 .taken), c .waits .ensures HeaderPut.None)
 
 refuse-requires : tie.Need-refuse-requires
 refuse-requires c κs = search needs
@@ -32,25 +33,25 @@ returns-2 : tie.Need-returns-2
 unfolding sendingStep sendingNext readyStep
 returns-2 c = λ s len. simp (not-false (eqb (bitAnd (c .before .before .before .before .args .v) 0x20) 0) (sym (c .before .before .before .f2-ready .ensures) ∙ c .before .before .if1 .left), eq-eqb _ _ (c .before .if2 .taken), c .refuse .ensures HeaderPut.None)
 
-sub-send-at : tie.Need-sub-send-at
-sub-send-at c = search needs
+sub-waits : tie.Need-sub-waits
+sub-waits c = search needs
 
-send-at-requires-2 : tie.Need-send-at-requires-2
-send-at-requires-2 c κs = search needs
+waits-requires-2 : tie.Need-waits-requires-2
+waits-requires-2 c κs = search needs
 
 returns-3 : tie.Need-returns-3
-unfolding sendingStep sendingNext readyStep send.pointBy
-returns-3 c = λ s len. simp (not-false (eqb (bitAnd (c .before .before .before .before .args .v) 0x20) 0) (sym (c .before .before .before .f2-ready .ensures) ∙ c .before .before .if1 .left), ne-eqb _ _ (c .before .if2 .left), c .send-at2 .ensures HeaderPut.None)
+unfolding sendingStep sendingNext readyStep pointBy send.pointBy
+returns-3 c = λ s len. simp (not-false (eqb (bitAnd (c .before .before .before .before .args .v) 0x20) 0) (sym (c .before .before .before .f2-ready .ensures) ∙ c .before .before .if1 .left), ne-eqb _ _ (c .before .if2 .left), c .waits2 .ensures HeaderPut.None)
 
 pub ready-read-spec : {M : Type 1} → statement M
 ready-read-spec =
     tie.close
     (tie.spec
     f2-ready-requires
-    send-at-requires
+    waits-requires
     returns
     refuse-requires
     returns-2
-    sub-send-at
-    send-at-requires-2
+    sub-waits
+    waits-requires-2
     returns-3)

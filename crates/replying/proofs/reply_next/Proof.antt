@@ -20,14 +20,10 @@ use Rattle.arriving.proofs.handle_async_event.Reads as handle-async-event-reads
 use Rattle.replying.proofs.asks.Reads as asks-reads
 use Rattle.replying.proofs.finish.Reads as finish-reads
 use Rattle.replying.proofs.refuse.Reads as refuse-reads
-use Rattle.replying.proofs.unsent.Reads as unsent-reads
 use Rattle.replying.proofs.waits.Reads as waits-reads
 
 enum-told : tie.Need-enum-told
 enum-told c = search needs
-
-unsent-requires : tie.Need-unsent-requires
-unsent-requires c κs = search needs
 
 asks-requires : tie.Need-asks-requires
 asks-requires c κs = search needs
@@ -67,7 +63,7 @@ refuse-requires c κs = search needs
 
 returns : tie.Need-returns
 unfolding replyNext nextBy pointBy
-returns c = λ e h. simp (c .before .before .enum-told .given .1) (unlaid e (c .before .before .before .before .before .before .before .before .pre .1 .0) (c .before .before .before .before .before .before .before .before .pre .0) (still (c .before .before .before .before .before .before .before .before .pre .0) (rw (c .asks .ensures HeaderPut.None))))
+returns c = λ e h. simp (c .before .enum-told .given .1) (unlaid e (c .before .before .before .before .before .before .before .pre .1 .0) (c .before .before .before .before .before .before .before .pre .0) (still (c .before .before .before .before .before .before .before .pre .0) (rw (c .asks .ensures HeaderPut.None))))
 
 returns-2 : tie.Need-returns-2
 unfolding replyNext packetStep nextBy pointBy
@@ -100,7 +96,6 @@ reply-next-spec =
     tie.close
     (tie.spec
     enum-told
-    unsent-requires
     asks-requires
     enum-told-2
     waits-requires

@@ -1,26 +1,22 @@
 use mathlib.Core.Path.{refl}
 use Rattle.ioctl.specs.Ioctl as to
 use Rattle.sending.specs.Sending as send
-use Rattle.replying.specs.Replying.{headerIn, pointBy}
+use Rattle.replying.specs.Replying.{headerIn}
 use Rattle.replying.proofs.Laws.{follows}
 use borrow.Author.Needs.{needs}
 use Rattle.replying.proofs.sending_next.Statement.{statement}
 use Rattle.replying.proofs.sending_next.Tie as tie
 use Rattle.replying.proofs.sending_next.Reads as reads
 use Rattle.replying.proofs.sending_next.Lts as lts
-use Rattle.replying.proofs.asks.Reads as asks-reads
 use Rattle.replying.proofs.refuse.Reads as refuse-reads
+use Rattle.replying.proofs.sends.Reads as sends-reads
 use Rattle.replying.proofs.sent.Reads as sent-reads
-use Rattle.replying.proofs.unpolled.Reads as unpolled-reads
 
 enum-told : tie.Need-enum-told
 enum-told c = search needs
 
-unpolled-requires : tie.Need-unpolled-requires
-unpolled-requires c κs = search needs
-
-asks-requires : tie.Need-asks-requires
-asks-requires c κs = search needs
+sends-requires : tie.Need-sends-requires
+sends-requires c κs = search needs
 
 enum-told-2 : tie.Need-enum-told-2
 enum-told-2 c = search needs
@@ -35,8 +31,8 @@ refuse-requires : tie.Need-refuse-requires
 refuse-requires c κs = search needs
 
 returns : tie.Need-returns
-unfolding to.sendingNext send.nextBy send.headerIn headerIn pointBy
-returns c = λ h x. rw (c .before .before .enum-told .given .1) (follows x (c .before .before .before .before .before .before .pre) refl (c .asks .ensures x))
+unfolding to.sendingNext send.nextBy send.headerIn headerIn
+returns c = λ h x. rw (c .before .enum-told .given .1) (follows x (c .before .before .before .before .before .pre) refl (c .sends .ensures x))
 
 same-length : tie.Need-same-length
 same-length c = search needs
@@ -54,8 +50,7 @@ sending-next-spec =
     tie.close
     (tie.spec
     enum-told
-    unpolled-requires
-    asks-requires
+    sends-requires
     enum-told-2
     sent-requires
     enum-told-3

@@ -1,23 +1,24 @@
-use mathlib.Core.List.{[]}
-use Rattle.definition.specs.Event.{eventOf}
-use Rattle.replying.proofs.Laws.{started}
+use mathlib.Core.Path.{sym, _∙_}
+use Rattle.send.specs.declared.HeaderPut.{HeaderPut}
+use Rattle.send.specs.Send.{startStep}
+use Rattle.ioctl.specs.Ioctl.{sendingStep, sendingNext}
+use Rattle.sending.specs.Sending as send
+use Rattle.replying.specs.Replying.{pointBy}
+use Rattle.replying.proofs.Laws.{unemitted}
 use borrow.Author.Needs.{needs}
 use Rattle.replying.proofs.sending_start.Statement.{statement}
 use Rattle.replying.proofs.sending_start.Tie as tie
 use Rattle.replying.proofs.sending_start.Reads as reads
 use Rattle.replying.proofs.sending_start.Lts as lts
-use Rattle.ioctl.proofs.out_of.Reads as out-of-reads
-use Rattle.replying.proofs.sending_next.Reads as sending-next-reads
-use Rattle.sending.proofs.send_start.Reads as send-start-reads
+use Rattle.replying.proofs.emit.Reads as emit-reads
+use Rattle.replying.proofs.waits.Reads as waits-reads
+use Rattle.sending.proofs.is_free.Reads as is-free-reads
 
-out-of-requires : tie.Need-out-of-requires
-out-of-requires c κs = search needs
+is-free-requires : tie.Need-is-free-requires
+is-free-requires c κs = search needs
 
-send-start-requires : tie.Need-send-start-requires
-send-start-requires c κs = search needs
-
-sending-next-requires : tie.Need-sending-next-requires
-sending-next-requires c κs = c .before .before .before .before .before .before .before .send-start .ensures (eventOf [] 0) .held .known
+emit-requires : tie.Need-emit-requires
+emit-requires c κs = search needs
 
 same-length : tie.Need-same-length
 same-length c = search needs
@@ -29,16 +30,29 @@ same-length-3 : tie.Need-same-length-3
 same-length-3 c = search needs
 
 returns : tie.Need-returns
-returns c = started (c .before .before .before .before .before .before .before .before .before .before .before .before .before .before .before .before .before .before .args .len) (rw (c .before .before .before .before .before .before .before .before .before .before .before .out-of .ensures) at (c .before .before .before .before .before .before .before .before .before .before .send-start .ensures)) (c .before .before .sending-next .ensures)
+unfolding startStep
+returns c = simp (sym (c .before .before .before .before .before .before .before .before .before .before .before .is-free .ensures) ∙ c .before .before .before .before .before .before .before .before .before .before .if1 .taken) (c .before .before .before .before .before .before .emit .ensures)
+
+waits-requires : tie.Need-waits-requires
+waits-requires c κs = search needs
+
+same-length-4 : tie.Need-same-length-4
+same-length-4 c = search needs
+
+returns-2 : tie.Need-returns-2
+unfolding startStep sendingStep sendingNext pointBy send.pointBy
+returns-2 c = simp (sym (c .before .before .is-free .ensures) ∙ c .before .if1 .left) (unemitted (c .before .before .before .before .before .before .before .pre .1 .0) (c .before .before .before .before .before .before .before .pre .0) (rw (c .waits .ensures HeaderPut.None)))
 
 pub sending-start-spec : {M : Type 1} → statement M
 sending-start-spec =
     tie.close
     (tie.spec
-    out-of-requires
-    send-start-requires
-    sending-next-requires
+    is-free-requires
+    emit-requires
     same-length
     same-length-2
     same-length-3
-    returns)
+    returns
+    waits-requires
+    same-length-4
+    returns-2)

@@ -12,14 +12,10 @@ use Rattle.replying.proofs.test_read.Lts as lts
 use Rattle.receive.proofs.polled.poll_from.Reads as poll-from-reads
 use Rattle.replying.proofs.asks.Reads as asks-reads
 use Rattle.replying.proofs.refuse.Reads as refuse-reads
-use Rattle.replying.proofs.unsent.Reads as unsent-reads
 use Rattle.send.proofs.elapsed_us.Reads as elapsed-us-reads
 
 elapsed-us-requires : tie.Need-elapsed-us-requires
 elapsed-us-requires c κs = search needs
-
-unsent-requires : tie.Need-unsent-requires
-unsent-requires c κs = search needs
 
 poll-from-requires : tie.Need-poll-from-requires
 poll-from-requires c κs = search needs
@@ -32,7 +28,7 @@ refuse-requires c κs = search needs
 
 returns : tie.Need-returns
 unfolding testStep pointBy
-returns c = let e : c .before .before .before .before .elapsed-us .result < 500000 = omega arith in simp (← c .before .before .before .before .elapsed-us .ensures, lt-ltb _ _ e, ← c .before .poll-from .ensures, c .asks .ensures HeaderPut.None)
+returns c = let e : c .before .before .before .elapsed-us .result < 500000 = omega arith in simp (← c .before .before .before .elapsed-us .ensures, lt-ltb _ _ e, ← c .before .poll-from .ensures, c .asks .ensures HeaderPut.None)
 
 returns-2 : tie.Need-returns-2
 unfolding testStep
@@ -43,7 +39,6 @@ test-read-spec =
     tie.close
     (tie.spec
     elapsed-us-requires
-    unsent-requires
     poll-from-requires
     asks-requires
     refuse-requires

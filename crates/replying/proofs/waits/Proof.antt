@@ -5,10 +5,6 @@ use Rattle.replying.proofs.waits.Reads as reads
 use Rattle.replying.proofs.waits.Lts as lts
 use Rattle.replying.proofs.asks.Reads as asks-reads
 use Rattle.replying.proofs.unpolled.Reads as unpolled-reads
-use Rattle.replying.proofs.unsent.Reads as unsent-reads
-
-unsent-requires : tie.Need-unsent-requires
-unsent-requires c κs = search needs
 
 unpolled-requires : tie.Need-unpolled-requires
 unpolled-requires c κs = search needs
@@ -17,7 +13,7 @@ asks-requires : tie.Need-asks-requires
 asks-requires c κs = search needs
 
 returns : tie.Need-returns
-returns c = λ h. rw (← c .before .before .unsent .ensures, ← c .before .unpolled .ensures) (c .asks .ensures h)
+returns c = λ h. rw (← c .before .unpolled .ensures) (c .asks .ensures h)
 
 pub waits-spec : {M : Type 1} → statement M
-waits-spec = tie.close (tie.spec unsent-requires unpolled-requires asks-requires returns)
+waits-spec = tie.close (tie.spec unpolled-requires asks-requires returns)
