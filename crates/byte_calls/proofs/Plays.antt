@@ -6,60 +6,67 @@ use Prim.Native.Nat.{ℕ, suc, _+_, _-_, _≤_, _<_}
 use native.Mathlib.Omega.{arith}
 use lib.Dec.{eqb, leb, ltb}
 use lib.ListN.{length, take, drop, replicate, length-replicate}
-use lib.Seq.{drop-drop, length-take-le}
+use lib.Seq.{drop-drop}
 use borrow.Author.Tests.{eq-eqb, ne-eqb, le-leb, lt-leb}
 use Rattle.slices.specs.Pick.{pick}
 use Rattle.slices.specs.Le.{le32At}
 use Rattle.slices.proofs.Over.{part-rest}
-use Rattle.definition.specs.Prog.{World, world}
+use Rattle.wlan.specs.declared.DriverError.{DriverError}
+use Rattle.definition.specs.Bus.{Bytes}
+use Rattle.definition.specs.Prog.{World}
 use Rattle.definition.specs.Calls.{Call}
 use Rattle.definition.specs.Run.{End, called}
 use Rattle.definition.specs.Player.{Arguments, callWith, badArguments, nameLength, joinOf, variableOf, argumentsOf, emptyLog, playedCall, lineOf, one, nextCall, playFrom}
-use Rattle.going.specs.declared.CallEnd.{CallEnd}
-use Rattle.going.specs.Onward.{endOf}
-use Rattle.lines.specs.Input.{outputLength, Plain, complete}
-use Rattle.byte_calls.specs.Play.{callEnd, worldAfter, Fronts}
-use Rattle.lines.specs.Text.{textOf}
-use Rattle.byte_calls.proofs.Arguments.{join-complete, variable-complete}
+use Rattle.session_bytes.specs.Session.{isSession}
+use Rattle.jobs.specs.declared.PlainCall.{PlainCall}
+use Rattle.jobs.specs.Jobs.{callOf}
+use Rattle.starting.specs.Starting.{isPoll}
+use Rattle.run_end.specs.declared.RunEnd.{RunEnd}
+use Rattle.run_end.specs.RunEnd.{endBy, error}
+use Rattle.turning.specs.Turning.{worldIn}
+use Rattle.runs.specs.Runs.{Left, Ran}
+use Rattle.taking.specs.Taking.{Leaves}
+use Rattle.lines.specs.Input.{outputLength, complete}
+use Rattle.byte_calls.specs.declared.plain.PlainArgs.{PlainArgs}
+use Rattle.byte_calls.specs.Play.{Plain, Bare, Reads, Plays, callEnd, worldAfter}
+use Rattle.byte_calls.proofs.Arguments.{ended, join-complete, variable-complete}
 
 -- ---- the end of the call
 
--- the arguments are a call's
-pub played : (c : Call) (w : World) (rec log out : List ℕ) (x : Arguments) (e : End) → x ≡ callWith c → e ≡ called c w rec log out → e ≡ playedCall w rec log out x
-unfolding playedCall
-played c w rec log out x e ex h = h ∙ ap (λ (y : Arguments). playedCall w rec log out y) (sym ex)
+-- without an output
+whole : {e : End} {log d : List ℕ} {g : Bytes} {r : RunEnd} → Left e log d g r → Leaves e log d g [] r
+whole h = record { tells = h .tells; len = h .len; log = h .log; output = sym (h .output); held = h .held; stands = h .stands }
 
--- the log is not written
-pub unlogged : (r : CallEnd) (w : World) (buf rec log log₀ out after : List ℕ) (x y : Arguments) → x ≡ y → endOf r log buf after ≡ playedCall w rec log₀ out y → endOf r log buf after ≡ playedCall w rec log₀ out x
-unlogged r w buf rec log log₀ out after x y ex h = h ∙ ap (λ (z : Arguments). playedCall w rec log₀ out z) (sym ex)
+-- the arguments are a call's
+pub taken : {log′ d : List ℕ} {g o′ : Bytes} {r : RunEnd} {x : Arguments} (c : Call) (w : World) (rec log : List ℕ) (o : Bytes) → x ≡ callWith c → Leaves (called c w rec log o) log′ d g o′ r → Leaves (playedCall w rec log o x) log′ d g o′ r
+unfolding playedCall
+taken c w rec log o ex h = rw ex h
+
+pub played : {log′ d : List ℕ} {g : Bytes} {r : RunEnd} {x : Arguments} (c : Call) (rec log b : List ℕ) (buf : Bytes) → x ≡ callWith c → Ran c rec log log′ b d buf g r → Plays x rec log log′ b d buf g [] [] r
+played c rec log b buf ex h = taken c (worldIn b buf) rec log [] ex (whole h)
+
+-- nothing is changed
+pub refused : {r : RunEnd} {x : Arguments} (rec log b : List ℕ) (buf out : Bytes) → x ≡ badArguments → isSession b ≡ true → r ≡ endBy (error DriverError.InvalidArg) 0 → Plays x rec log log b b buf buf out out r
+unfolding playedCall
+refused rec log b buf out ex h er =
+    rw (ex, er, ← ended (error DriverError.InvalidArg) (worldIn b buf) log out)
+    (record { tells = record { kind = refl; value = refl; failure = refl; fits = omega arith }; len = refl; log = refl; output = refl; held = h; stands = refl })
 
 no-output : (n : ℕ) (a out : List ℕ) → eqb n 8 ≡ false → out ≡ replicate (outputLength n a) 0 → out ≡ []
 no-output n a out h e = rw (e, h)
 
 -- no output, and the call's number
-pub outputless : (r : CallEnd) (w : World) (buf rec log log₀ out a : List ℕ) (n k : ℕ) → n ≡ k → eqb k 8 ≡ false
-    → out ≡ replicate (outputLength n a) 0 → endOf r log buf [] ≡ playedCall w rec log₀ [] (argumentsOf k a)
-    → endOf r log buf out ≡ playedCall w rec log₀ out (argumentsOf n a)
-outputless r w buf rec log log₀ out a n k en h eo p = rw (no-output n a out (rw en h) eo, en) p
+pub outputless : {log′ d : List ℕ} {g out : Bytes} {r : RunEnd} (rec log b : List ℕ) (buf : Bytes) (a : List ℕ) (n k : ℕ) → n ≡ k → eqb k 8 ≡ false → out ≡ replicate (outputLength n a) 0
+    → Plays (argumentsOf k a) rec log log′ b d buf g [] [] r → Plays (argumentsOf n a) rec log log′ b d buf g out out r
+outputless rec log b buf a n k en h eo p = rw (no-output n a _ (rw en h) eo, en) p
+
+pub numbered : {log′ d : List ℕ} {g o′ : Bytes} {r : RunEnd} (rec log b : List ℕ) (buf o : Bytes) (a : List ℕ) (n k : ℕ) → n ≡ k → Plays (argumentsOf k a) rec log log′ b d buf g o o′ r → Plays (argumentsOf n a) rec log log′ b d buf g o o′ r
+numbered rec log b buf o a n k en p = rw en p
 
 -- the state, the list and the buffer that are handed on
-pub carried : (r : CallEnd) (w : World) (buf rec log log₀ out after a : List ℕ) (n : ℕ) → log₀ ≡ emptyLog → out ≡ replicate (outputLength n a) 0
-    → endOf r log buf after ≡ playedCall w rec log₀ out (argumentsOf n a) → world (r .st) buf (r .list) ≡ worldAfter (callEnd w rec n a)
-carried r w buf rec log log₀ out after a n el eo p =
-    ap worldAfter p
-    ∙ (ap (λ (l : List ℕ). worldAfter (playedCall w rec l out (argumentsOf n a))) el ∙ ap (λ (o : List ℕ). worldAfter (playedCall w rec emptyLog o (argumentsOf n a))) eo)
-
--- the text's front is the call's lines
-pub shows : (r : CallEnd) (w : World) (buf rec log log₀ out after a text : List ℕ) (n k : ℕ) → log₀ ≡ emptyLog → out ≡ replicate (outputLength n a) 0
-    → endOf r log buf after ≡ playedCall w rec log₀ out (argumentsOf n a) → take k text ≡ textOf (lineOf n (endOf r log buf after)) → k ≤ length text
-    → Fronts (textOf (lineOf n (callEnd w rec n a))) text
-shows r w buf rec log log₀ out after a text n k el eo p t l =
-    let q : take k text ≡ textOf (lineOf n (callEnd w rec n a)) =
-    t
-    ∙ (ap (λ (e : End). textOf (lineOf n e)) p
-    ∙ (ap (λ (l : List ℕ). textOf (lineOf n (playedCall w rec l out (argumentsOf n a)))) el ∙ ap (λ (o : List ℕ). textOf (lineOf n (playedCall w rec emptyLog o (argumentsOf n a)))) eo)) in
-    let m : length (take k text) ≡ k = length-take-le k text l in
-    rw (← q, m)
+pub carried : {log log′ d : List ℕ} {g o o′ : Bytes} {r : RunEnd} (rec b : List ℕ) (buf : Bytes) (a : List ℕ) (n : ℕ) → log ≡ emptyLog → o ≡ replicate (outputLength n a) 0
+    → Plays (argumentsOf n a) rec log log′ b d buf g o o′ r → worldIn d g ≡ worldAfter (callEnd (worldIn b buf) rec n a)
+carried rec b buf a n el eo p = rw (el, eo) at (p .stands)
 
 output-is : (t : Bool) (n : ℕ) → pick t (replicate n 0) [] ≡ replicate {A = ℕ} (pick t n 0) 0
 output-is true n = refl
@@ -74,37 +81,45 @@ goes-on m w n a rec more = rw (output-is (eqb n 8 && eqb (length a) 4) (le32At a
 -- ---- the arguments
 
 module _ (a : List ℕ) where
-  pub init-is : length a ≡ 4 → argumentsOf 1 a ≡ callWith (Call.wifiInit (le32At a 0))
-  unfolding argumentsOf
-  init-is h = rw (eq-eqb (length a) 4 h)
+  pub init-is : {x : ℕ} → x ≡ le32At a 0 → length a ≡ 4 → Reads (PlainArgs.Is (PlainCall.Init x)) (argumentsOf 1 a)
+  unfolding argumentsOf callOf isPoll
+  init-is e h = (rw (eq-eqb (length a) 4 h, e), refl)
 
-  pub init-bad : (length a ≡ 4 → ⊥) → argumentsOf 1 a ≡ badArguments
+  pub init-bad : (length a ≡ 4 → ⊥) → Reads PlainArgs.Bad (argumentsOf 1 a)
   unfolding argumentsOf
-  init-bad h = rw (ne-eqb (length a) 4 h)
+  init-bad h = (rw (ne-eqb (length a) 4 h), tt)
 
-  pub gpio-is : length a ≡ 8 → argumentsOf 9 a ≡ callWith (Call.gpioSet (le32At a 0) (le32At a 4))
-  unfolding argumentsOf
-  gpio-is h = rw (eq-eqb (length a) 8 h)
+  pub gpio-is : {x y : ℕ} → x ≡ le32At a 0 → y ≡ le32At a 4 → length a ≡ 8 → Reads (PlainArgs.Is (PlainCall.GpioSet x y)) (argumentsOf 9 a)
+  unfolding argumentsOf callOf isPoll
+  gpio-is e f h = (rw (eq-eqb (length a) 8 h, e, f), refl)
 
-  pub gpio-bad : (length a ≡ 8 → ⊥) → argumentsOf 9 a ≡ badArguments
+  pub gpio-bad : (length a ≡ 8 → ⊥) → Reads PlainArgs.Bad (argumentsOf 9 a)
   unfolding argumentsOf
-  gpio-bad h = rw (ne-eqb (length a) 8 h)
+  gpio-bad h = (rw (ne-eqb (length a) 8 h), tt)
 
-  pub get-is : length a ≡ 8 → argumentsOf 11 a ≡ callWith (Call.getIoctl (le32At a 0) (le32At a 4))
-  unfolding argumentsOf
-  get-is h = rw (eq-eqb (length a) 8 h)
+  pub get-is : {x y : ℕ} → x ≡ le32At a 0 → y ≡ le32At a 4 → length a ≡ 8 → Reads (PlainArgs.Is (PlainCall.GetIoctl x y)) (argumentsOf 11 a)
+  unfolding argumentsOf callOf isPoll
+  get-is e f h = (rw (eq-eqb (length a) 8 h, e, f), refl)
 
-  pub get-bad : (length a ≡ 8 → ⊥) → argumentsOf 11 a ≡ badArguments
+  pub get-bad : (length a ≡ 8 → ⊥) → Reads PlainArgs.Bad (argumentsOf 11 a)
   unfolding argumentsOf
-  get-bad h = rw (ne-eqb (length a) 8 h)
+  get-bad h = (rw (ne-eqb (length a) 8 h), tt)
 
-  pub set-is : length a ≡ 12 → argumentsOf 12 a ≡ callWith (Call.setIoctl (le32At a 0) (le32At a 4) (le32At a 8))
-  unfolding argumentsOf
-  set-is h = rw (eq-eqb (length a) 12 h)
+  pub set-is : {x y z : ℕ} → x ≡ le32At a 0 → y ≡ le32At a 4 → z ≡ le32At a 8 → length a ≡ 12 → Reads (PlainArgs.Is (PlainCall.SetIoctl x y z)) (argumentsOf 12 a)
+  unfolding argumentsOf callOf isPoll
+  set-is e f g h = (rw (eq-eqb (length a) 12 h, e, f, g), refl)
 
-  pub set-bad : (length a ≡ 12 → ⊥) → argumentsOf 12 a ≡ badArguments
+  pub set-bad : (length a ≡ 12 → ⊥) → Reads PlainArgs.Bad (argumentsOf 12 a)
   unfolding argumentsOf
-  set-bad h = rw (ne-eqb (length a) 12 h)
+  set-bad h = (rw (ne-eqb (length a) 12 h), tt)
+
+  pub poll-is : length a ≡ 0 → argumentsOf 6 a ≡ callWith Call.wifiPoll
+  unfolding argumentsOf
+  poll-is h = rw (eq-eqb (length a) 0 h)
+
+  pub poll-bad : (length a ≡ 0 → ⊥) → argumentsOf 6 a ≡ badArguments
+  unfolding argumentsOf
+  poll-bad h = rw (ne-eqb (length a) 0 h)
 
   -- take's output is as long as its argument says
   pub take-is : (out : List ℕ) → out ≡ replicate (outputLength 8 a) 0 → length a ≡ 4 → argumentsOf 8 a ≡ callWith (Call.getRxBuf (length out))
@@ -147,44 +162,44 @@ variable-is a n e h =
 
 -- ---- the calls that have no arguments
 
-pub numbered : (n k : ℕ) (a : List ℕ) → n ≡ k → argumentsOf n a ≡ argumentsOf k a
-numbered n k a e = rw e
+pub renumbered : (r : PlainArgs) (n k : ℕ) (a : List ℕ) → n ≡ k → Reads r (argumentsOf k a) → Reads r (argumentsOf n a)
+renumbered r n k a e h = rw e h
 
 module _ (n : ℕ) (a : List ℕ) where
-  pub scan-is : n ≡ 2 → length a ≡ 0 → argumentsOf n a ≡ callWith Call.wifiScan
-  unfolding argumentsOf
-  scan-is e h = rw (e, eq-eqb (length a) 0 h)
+  pub scan-is : n ≡ 2 → length a ≡ 0 → Reads (PlainArgs.Is PlainCall.Scan) (argumentsOf n a)
+  unfolding argumentsOf callOf isPoll
+  scan-is e h = (rw (e, eq-eqb (length a) 0 h), refl)
 
-  pub leave-is : n ≡ 4 → length a ≡ 0 → argumentsOf n a ≡ callWith Call.wifiDisconnect
-  unfolding argumentsOf
-  leave-is e h = rw (e, eq-eqb (length a) 0 h)
+  pub leave-is : n ≡ 4 → length a ≡ 0 → Reads (PlainArgs.Is PlainCall.Disconnect) (argumentsOf n a)
+  unfolding argumentsOf callOf isPoll
+  leave-is e h = (rw (e, eq-eqb (length a) 0 h), refl)
 
-  pub abort-is : n ≡ 5 → length a ≡ 0 → argumentsOf n a ≡ callWith Call.wifiAbortConnect
-  unfolding argumentsOf
-  abort-is e h = rw (e, eq-eqb (length a) 0 h)
+  pub abort-is : n ≡ 5 → length a ≡ 0 → Reads (PlainArgs.Is PlainCall.AbortConnect) (argumentsOf n a)
+  unfolding argumentsOf callOf isPoll
+  abort-is e h = (rw (e, eq-eqb (length a) 0 h), refl)
 
-  pub poll-is : n ≡ 6 → length a ≡ 0 → argumentsOf n a ≡ callWith Call.wifiPoll
-  unfolding argumentsOf
-  poll-is e h = rw (e, eq-eqb (length a) 0 h)
-
-  pub mac-is : n ≡ 10 → length a ≡ 0 → argumentsOf n a ≡ callWith Call.getMacAddr
-  unfolding argumentsOf
-  mac-is e h = rw (e, eq-eqb (length a) 0 h)
+  pub mac-is : n ≡ 10 → length a ≡ 0 → Reads (PlainArgs.Is PlainCall.GetMacAddr) (argumentsOf n a)
+  unfolding argumentsOf callOf isPoll
+  mac-is e h = (rw (e, eq-eqb (length a) 0 h), refl)
 
 pick-same : (t : Bool) (x : Arguments) → pick t x x ≡ x
 pick-same true x = refl
 pick-same false x = refl
 
-module _ (n : ℕ) (a : List ℕ) (p : Plain n) where
-  pub plain-bad : (length a ≡ 0 → ⊥) → argumentsOf n a ≡ badArguments
+module _ (n : ℕ) (a : List ℕ) (p : Plain n) (q : (n ≡ 1 → ⊥) × (n ≡ 9 → ⊥) × (n ≡ 11 → ⊥) × (n ≡ 12 → ⊥)) where
+  pub bare-bad : (length a ≡ 0 → ⊥) → Reads PlainArgs.Bad (argumentsOf n a)
   unfolding argumentsOf
-  plain-bad h =
-      rw
-      (ne-eqb n 1 (p .0), ne-eqb n 3 (p .1), ne-eqb n 7 (p .2), ne-eqb n 8 (p .3), ne-eqb n 9 (p .4), ne-eqb n 11 (p .5), ne-eqb n 12 (p .6), ne-eqb n 13 (p .7), ne-eqb (length a) 0 h)
-      (simp pick-same)
+  bare-bad h = (
+    rw
+        (ne-eqb n 1 (q .0), ne-eqb n 3 (p .0), ne-eqb n 7 (p .2), ne-eqb n 8 (p .3), ne-eqb n 9 (q .1), ne-eqb n 11 (q .2), ne-eqb n 12 (q .3), ne-eqb n 13 (p .4), ne-eqb (length a) 0 h)
+        (simp pick-same),
+    tt,
+  )
 
-  pub up-is : (n ≡ 2 → ⊥) → (n ≡ 4 → ⊥) → (n ≡ 5 → ⊥) → (n ≡ 6 → ⊥) → (n ≡ 10 → ⊥) → length a ≡ 0 → argumentsOf n a ≡ callWith Call.up
-  unfolding argumentsOf
-  up-is b d f g i h =
-      rw
-      (ne-eqb n 1 (p .0), ne-eqb n 2 b, ne-eqb n 3 (p .1), ne-eqb n 4 d, ne-eqb n 5 f, ne-eqb n 6 g, ne-eqb n 7 (p .2), ne-eqb n 8 (p .3), ne-eqb n 9 (p .4), ne-eqb n 10 i, ne-eqb n 11 (p .5), ne-eqb n 12 (p .6), ne-eqb n 13 (p .7), eq-eqb (length a) 0 h)
+  pub up-is : (n ≡ 2 → ⊥) → (n ≡ 4 → ⊥) → (n ≡ 5 → ⊥) → (n ≡ 10 → ⊥) → length a ≡ 0 → Reads (PlainArgs.Is PlainCall.Up) (argumentsOf n a)
+  unfolding argumentsOf callOf isPoll
+  up-is b d f i h = (
+    rw
+        (ne-eqb n 1 (q .0), ne-eqb n 2 b, ne-eqb n 3 (p .0), ne-eqb n 4 d, ne-eqb n 5 f, ne-eqb n 6 (p .1), ne-eqb n 7 (p .2), ne-eqb n 8 (p .3), ne-eqb n 9 (q .1), ne-eqb n 10 i, ne-eqb n 11 (q .2), ne-eqb n 12 (q .3), ne-eqb n 13 (p .4), eq-eqb (length a) 0 h),
+    refl,
+  )

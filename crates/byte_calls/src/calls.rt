@@ -1,31 +1,25 @@
-// The fourteen calls with their arguments as bytes. Numbers are le words.
-use going::CallEnd;
+// The fourteen calls with their arguments as bytes. Numbers are le words. Bad arguments are refused with 1: nothing is changed.
+use crate::plain::PlainArgs;
+use crate::plain::plain_args;
+use run_end::RunEnd;
+use run_end::error_end;
+use runs::exchanges::run_join;
+use runs::exchanges::run_plain;
+use runs::exchanges::run_variable;
+use runs::frames::run_send;
+use runs::polling::run_poll;
+use taking::run_take;
 use wlan::DriverError;
-use wlan::Outcome;
-use wlan::Refusal;
-use wlan::ScanList;
-use wlan::State;
 use words::get_le32;
 ghost use mathlib.Core.Path.{_≡_};
+ghost use mathlib.Core.Bool.{true};
 ghost use mathlib.Core.List.{List, []};
 ghost use Prim.Native.Nat.{ℕ};
-ghost use lib.ListN.{replicate};
-ghost use Rattle.definition.specs.Prog.{world};
-ghost use Rattle.definition.specs.Player.{nameLength, joinOf, variableOf, argumentsOf, playedCall, badArguments};
-ghost use Rattle.going.specs.Onward.{endOf};
-ghost use Rattle.lines.specs.Input.{outputLength, complete, Plain};
-
-// Bad arguments: nothing is changed.
-fn refused(st: State, list: ScanList) -> CallEnd
-    ensures { λ r. ⌜ ((rec log buf out : List ℕ) → endOf r log buf out ≡ playedCall (world st buf list) rec log out badArguments) ⌝ }
-{
-    CallEnd {
-        outcome: Outcome::Refused(Refusal::Driver(DriverError::InvalidArg)),
-        st: st,
-        list: list,
-        len: 0,
-    }
-}
+ghost use lib.ListN.{length, replicate};
+ghost use Rattle.definition.specs.Player.{nameLength, joinOf, variableOf, argumentsOf};
+ghost use Rattle.session_bytes.specs.Session.{isSession};
+ghost use Rattle.lines.specs.Input.{outputLength, complete};
+ghost use Rattle.byte_calls.specs.Play as to;
 
 // Auth, SSID length, SSID, passphrase.
 fn join_fits(args: &[u8]) -> bool
@@ -52,205 +46,134 @@ fn variable_fits(args: &[u8]) -> bool
     4 <= args.len() && name_length(&args[4..]) < args.len() - 4
 }
 
-fn init(
-    args: &[u8],
-    st: State,
-    list: ScanList,
-    rec: &[u32],
-    log: &mut [u32],
-    buf: &mut [u8],
-) -> CallEnd
-    ensures { λ r. ⌜ endOf r (now (log .exit)) (now (buf .exit)) [] ≡ playedCall (world st (now (buf .entry)) list) (now (rec .entry)) (now (log .entry)) [] (argumentsOf 1 (now (args .entry))) ⌝ }
-{
-    if args.len() == 4 {
-        cyw43::calls::wifi_init(get_le32(args, 0), st, list, rec, log, buf)
-    } else {
-        refused(st, list)
-    }
-}
-
 fn join(
     args: &[u8],
-    st: State,
-    list: ScanList,
+    s: &mut [u8],
+    undo: &mut [u8],
     rec: &[u32],
     log: &mut [u32],
     buf: &mut [u8],
-) -> CallEnd
-    ensures { λ r. ⌜ endOf r (now (log .exit)) (now (buf .exit)) [] ≡ playedCall (world st (now (buf .entry)) list) (now (rec .entry)) (now (log .entry)) [] (argumentsOf 3 (now (args .entry))) ⌝ }
+) -> RunEnd
+    requires { ⌜ isSession (now s) ≡ true ⌝ }
+    requires { ⌜ length (now undo) ≡ 3444 ⌝ }
+    requires { ⌜ length (now buf) ≡ 2048 ⌝ }
+    ensures { λ r. ⌜ to.Plays (argumentsOf 3 (now (args .entry))) (now (rec .entry)) (now (log .entry)) (now (log .exit)) (now (s .entry)) (now (s .exit)) (now (buf .entry)) (now (buf .exit)) [] [] r ⌝ }
 {
     if join_fits(args) {
         let n = get_le32(args, 4) as usize;
-        cyw43::calls::wifi_connect(
+        return run_join(
             get_le32(args, 0),
             &args[8..8 + n],
             &args[8 + n..],
-            st,
-            list,
+            s,
+            undo,
             rec,
             log,
             buf,
-        )
-    } else {
-        refused(st, list)
+        );
     }
+    error_end(DriverError::InvalidArg, 0)
 }
 
 fn send(
     args: &[u8],
-    st: State,
-    list: ScanList,
+    s: &mut [u8],
+    undo: &mut [u8],
     rec: &[u32],
     log: &mut [u32],
     buf: &mut [u8],
-) -> CallEnd
-    ensures { λ r. ⌜ endOf r (now (log .exit)) (now (buf .exit)) [] ≡ playedCall (world st (now (buf .entry)) list) (now (rec .entry)) (now (log .entry)) [] (argumentsOf 7 (now (args .entry))) ⌝ }
+) -> RunEnd
+    requires { ⌜ isSession (now s) ≡ true ⌝ }
+    requires { ⌜ length (now undo) ≡ 3444 ⌝ }
+    requires { ⌜ length (now buf) ≡ 2048 ⌝ }
+    ensures { λ r. ⌜ to.Plays (argumentsOf 7 (now (args .entry))) (now (rec .entry)) (now (log .entry)) (now (log .exit)) (now (s .entry)) (now (s .exit)) (now (buf .entry)) (now (buf .exit)) [] [] r ⌝ }
 {
     if 4 <= args.len() {
-        cyw43::frames::send_data(get_le32(args, 0), &args[4..], st, list, rec, log, buf)
-    } else {
-        refused(st, list)
+        return run_send(get_le32(args, 0), &args[4..], s, undo, rec, log, buf);
     }
+    error_end(DriverError::InvalidArg, 0)
 }
 
 // The output is as long as the argument says.
-fn take(args: &[u8], st: State, list: ScanList, buf: &[u8], out: &mut [u8]) -> CallEnd
+fn take(args: &[u8], s: &mut [u8], buf: &[u8], out: &mut [u8]) -> RunEnd
+    requires { ⌜ isSession (now s) ≡ true ⌝ }
     requires { ⌜ now out ≡ replicate (outputLength 8 (now args)) 0 ⌝ }
-    ensures { λ r. ⌜ ((rec log : List ℕ) → endOf r log (now (buf .entry)) (now (out .exit)) ≡ playedCall (world st (now (buf .entry)) list) rec log (now (out .entry)) (argumentsOf 8 (now (args .entry)))) ⌝ }
+    ensures { λ r. ⌜ ((rec log : List ℕ) → to.Plays (argumentsOf 8 (now (args .entry))) rec log log (now (s .entry)) (now (s .exit)) (now (buf .entry)) (now (buf .entry)) (now (out .entry)) (now (out .exit)) r) ⌝ }
 {
     if args.len() == 4 {
-        cyw43::frames::get_rx_buf(st, list, buf, out)
-    } else {
-        refused(st, list)
+        return run_take(s, buf, out);
     }
-}
-
-fn gpio(
-    args: &[u8],
-    st: State,
-    list: ScanList,
-    rec: &[u32],
-    log: &mut [u32],
-    buf: &mut [u8],
-) -> CallEnd
-    ensures { λ r. ⌜ endOf r (now (log .exit)) (now (buf .exit)) [] ≡ playedCall (world st (now (buf .entry)) list) (now (rec .entry)) (now (log .entry)) [] (argumentsOf 9 (now (args .entry))) ⌝ }
-{
-    if args.len() == 8 {
-        cyw43::ioctls::gpio_set(
-            get_le32(args, 0),
-            get_le32(args, 4),
-            st,
-            list,
-            rec,
-            log,
-            buf,
-        )
-    } else {
-        refused(st, list)
-    }
-}
-
-fn get(
-    args: &[u8],
-    st: State,
-    list: ScanList,
-    rec: &[u32],
-    log: &mut [u32],
-    buf: &mut [u8],
-) -> CallEnd
-    ensures { λ r. ⌜ endOf r (now (log .exit)) (now (buf .exit)) [] ≡ playedCall (world st (now (buf .entry)) list) (now (rec .entry)) (now (log .entry)) [] (argumentsOf 11 (now (args .entry))) ⌝ }
-{
-    if args.len() == 8 {
-        cyw43::ioctls::get_ioctl(
-            get_le32(args, 0),
-            get_le32(args, 4),
-            st,
-            list,
-            rec,
-            log,
-            buf,
-        )
-    } else {
-        refused(st, list)
-    }
-}
-
-fn set(
-    args: &[u8],
-    st: State,
-    list: ScanList,
-    rec: &[u32],
-    log: &mut [u32],
-    buf: &mut [u8],
-) -> CallEnd
-    ensures { λ r. ⌜ endOf r (now (log .exit)) (now (buf .exit)) [] ≡ playedCall (world st (now (buf .entry)) list) (now (rec .entry)) (now (log .entry)) [] (argumentsOf 12 (now (args .entry))) ⌝ }
-{
-    if args.len() == 12 {
-        cyw43::ioctls::set_ioctl(
-            get_le32(args, 0),
-            get_le32(args, 4),
-            get_le32(args, 8),
-            st,
-            list,
-            rec,
-            log,
-            buf,
-        )
-    } else {
-        refused(st, list)
-    }
+    error_end(DriverError::InvalidArg, 0)
 }
 
 fn variable(
     args: &[u8],
-    st: State,
-    list: ScanList,
+    s: &mut [u8],
+    undo: &mut [u8],
     rec: &[u32],
     log: &mut [u32],
     buf: &mut [u8],
-) -> CallEnd
-    ensures { λ r. ⌜ endOf r (now (log .exit)) (now (buf .exit)) [] ≡ playedCall (world st (now (buf .entry)) list) (now (rec .entry)) (now (log .entry)) [] (argumentsOf 13 (now (args .entry))) ⌝ }
+) -> RunEnd
+    requires { ⌜ isSession (now s) ≡ true ⌝ }
+    requires { ⌜ length (now undo) ≡ 3444 ⌝ }
+    requires { ⌜ length (now buf) ≡ 2048 ⌝ }
+    ensures { λ r. ⌜ to.Plays (argumentsOf 13 (now (args .entry))) (now (rec .entry)) (now (log .entry)) (now (log .exit)) (now (s .entry)) (now (s .exit)) (now (buf .entry)) (now (buf .exit)) [] [] r ⌝ }
 {
     if variable_fits(args) {
         let n = name_length(&args[4..]);
-        cyw43::ioctls::write_iovar(
+        return run_variable(
             get_le32(args, 0),
             &args[4..4 + n],
             &args[5 + n..],
-            st,
-            list,
+            s,
+            undo,
             rec,
             log,
             buf,
-        )
-    } else {
-        refused(st, list)
+        );
     }
+    error_end(DriverError::InvalidArg, 0)
 }
 
-// The calls that have no arguments.
-fn plain(
-    call: u32,
+fn poll(
     args: &[u8],
-    st: State,
-    list: ScanList,
+    s: &mut [u8],
+    undo: &mut [u8],
     rec: &[u32],
     log: &mut [u32],
     buf: &mut [u8],
-) -> CallEnd
-    requires { ⌜ Plain call ⌝ }
-    ensures { λ r. ⌜ endOf r (now (log .exit)) (now (buf .exit)) [] ≡ playedCall (world st (now (buf .entry)) list) (now (rec .entry)) (now (log .entry)) [] (argumentsOf call (now (args .entry))) ⌝ }
+) -> RunEnd
+    requires { ⌜ isSession (now s) ≡ true ⌝ }
+    requires { ⌜ length (now undo) ≡ 3444 ⌝ }
+    requires { ⌜ length (now buf) ≡ 2048 ⌝ }
+    ensures { λ r. ⌜ to.Plays (argumentsOf 6 (now (args .entry))) (now (rec .entry)) (now (log .entry)) (now (log .exit)) (now (s .entry)) (now (s .exit)) (now (buf .entry)) (now (buf .exit)) [] [] r ⌝ }
 {
-    if args.len() != 0 {
-        return refused(st, list);
+    if args.len() == 0 {
+        return run_poll(s, undo, rec, log, buf);
     }
-    match call {
-        2 => cyw43::calls::wifi_scan(st, list, rec, log, buf),
-        4 => cyw43::calls::wifi_disconnect(st, list, rec, log, buf),
-        5 => cyw43::calls::wifi_abort_connect(st, list, rec, log, buf),
-        6 => cyw43::calls::wifi_poll(st, list, rec, log, buf),
-        10 => cyw43::ioctls::get_mac_addr(st, list, rec, log, buf),
-        _ => cyw43::ioctls::up(st, list, rec, log, buf),
+    error_end(DriverError::InvalidArg, 0)
+}
+
+// The other calls.
+fn plain(
+    call: u32,
+    args: &[u8],
+    s: &mut [u8],
+    undo: &mut [u8],
+    rec: &[u32],
+    log: &mut [u32],
+    buf: &mut [u8],
+) -> RunEnd
+    requires { ⌜ to.Plain call ⌝ }
+    requires { ⌜ isSession (now s) ≡ true ⌝ }
+    requires { ⌜ length (now undo) ≡ 3444 ⌝ }
+    requires { ⌜ length (now buf) ≡ 2048 ⌝ }
+    ensures { λ r. ⌜ to.Plays (argumentsOf call (now (args .entry))) (now (rec .entry)) (now (log .entry)) (now (log .exit)) (now (s .entry)) (now (s .exit)) (now (buf .entry)) (now (buf .exit)) [] [] r ⌝ }
+{
+    let x = plain_args(call, args);
+    match x {
+        PlainArgs::Is(c) => run_plain(c, s, undo, rec, log, buf),
+        PlainArgs::Bad => error_end(DriverError::InvalidArg, 0),
     }
 }
 
@@ -258,25 +181,25 @@ fn plain(
 pub fn play_call(
     call: u32,
     args: &[u8],
-    st: State,
-    list: ScanList,
+    s: &mut [u8],
+    undo: &mut [u8],
     rec: &[u32],
     log: &mut [u32],
     buf: &mut [u8],
     out: &mut [u8],
-) -> CallEnd
+) -> RunEnd
+    requires { ⌜ isSession (now s) ≡ true ⌝ }
+    requires { ⌜ length (now undo) ≡ 3444 ⌝ }
+    requires { ⌜ length (now buf) ≡ 2048 ⌝ }
     requires { ⌜ now out ≡ replicate (outputLength call (now args)) 0 ⌝ }
-    ensures { λ r. ⌜ endOf r (now (log .exit)) (now (buf .exit)) (now (out .exit)) ≡ playedCall (world st (now (buf .entry)) list) (now (rec .entry)) (now (log .entry)) (now (out .entry)) (argumentsOf call (now (args .entry))) ⌝ }
+    ensures { λ r. ⌜ to.Plays (argumentsOf call (now (args .entry))) (now (rec .entry)) (now (log .entry)) (now (log .exit)) (now (s .entry)) (now (s .exit)) (now (buf .entry)) (now (buf .exit)) (now (out .entry)) (now (out .exit)) r ⌝ }
 {
     match call {
-        1 => init(args, st, list, rec, log, buf),
-        3 => join(args, st, list, rec, log, buf),
-        7 => send(args, st, list, rec, log, buf),
-        8 => take(args, st, list, buf, out),
-        9 => gpio(args, st, list, rec, log, buf),
-        11 => get(args, st, list, rec, log, buf),
-        12 => set(args, st, list, rec, log, buf),
-        13 => variable(args, st, list, rec, log, buf),
-        _ => plain(call, args, st, list, rec, log, buf),
+        3 => join(args, s, undo, rec, log, buf),
+        6 => poll(args, s, undo, rec, log, buf),
+        7 => send(args, s, undo, rec, log, buf),
+        8 => take(args, s, buf, out),
+        13 => variable(args, s, undo, rec, log, buf),
+        _ => plain(call, args, s, undo, rec, log, buf),
     }
 }

@@ -1,9 +1,18 @@
 // A call's further line.
-use going::CallEnd;
+use hearing::count_in;
+use places::read::auth_at;
+use places::read::failure_at;
+use places::read::frame_at;
+use places::read::marks_at;
+use places::read::reply_at;
+use places::read::sdpcm_at;
+use places::read::tick_at;
+use run_end::RunEnd;
 use shown::show;
 use shown::sum;
-use wlan::ScanList;
-use wlan::State;
+ghost use mathlib.Core.Path.{_≡_};
+ghost use mathlib.Core.Bool.{true};
+ghost use Rattle.session_bytes.specs.Session.{isSession};
 
 fn number(n: u64) {
     io::print_decimal(1, n);
@@ -18,43 +27,52 @@ fn numbers(ns: &[u64]) {
     }
 }
 
+// Mark, scan marks, auth.
+fn marks(s: &[u8])
+    requires { ⌜ isSession (now s) ≡ true ⌝ }
+{
+    let x = sdpcm_at(s);
+    let m = marks_at(s);
+    let a = auth_at(s);
+    numbers(&show::marks(x, m, a));
+}
+
 // Stored reply and frame.
-fn pending(st: State) {
-    let p = st.pending;
-    let r = p.ioctl_resp;
-    let f = p.rx;
+fn pending(s: &[u8])
+    requires { ⌜ isSession (now s) ≡ true ⌝ }
+{
+    let r = reply_at(s);
+    let f = frame_at(s);
     numbers(&show::reply(r));
     numbers(&show::frame(f));
 }
 
 // The stored failure, the disconnect's tick.
-fn link(st: State) {
-    let l = st.link;
-    let f = l.connect_failure;
-    let t = l.disconnect_started_tick;
+fn link(s: &[u8])
+    requires { ⌜ isSession (now s) ≡ true ⌝ }
+{
+    let f = failure_at(s);
+    let t = tick_at(s);
     numbers(&show::kept(f));
     numbers(&show::tick(t));
 }
 
-fn state(st: State) {
-    numbers(&show::marks(st));
-    pending(st);
-    link(st);
-}
-
-fn list(l: ScanList) {
-    number(l.count as u64);
-    number(sum::sum_list(l));
+fn list(s: &[u8])
+    requires { ⌜ isSession (now s) ≡ true ⌝ }
+{
+    number(count_in(s) as u64);
+    number(sum::sum_list(s));
 }
 
 // Mark, scan marks, auth; reply; frame; failure; tick; the failure reported; the scan list's count and sum.
-pub fn end(e: CallEnd) {
-    let st = e.st;
-    let outcome = e.outcome;
-    let heard = e.list;
-    state(st);
-    numbers(&show::reported(outcome));
-    list(heard);
+pub fn end(r: RunEnd, s: &[u8])
+    requires { ⌜ isSession (now s) ≡ true ⌝ }
+{
+    marks(s);
+    pending(s);
+    link(s);
+    numbers(&show::reported(r));
+    list(s);
 }
 
 // The sums of the work buffer and of the output.

@@ -1,37 +1,39 @@
 // What the player prints of a call, as bytes.
-use going::CallEnd;
+use places::read::sdpcm_at;
+use places::read::wifi_at;
+use run_end::RunEnd;
+use run_end::outcome::refusal_number;
 use state_bytes::numbers::state_number;
-use wlan::numbers::refusal_of;
-use wlan::numbers::value_of;
 ghost use mathlib.Core.Path.{_≡_};
+ghost use mathlib.Core.Bool.{true};
 ghost use mathlib.Core.List.{List, [], _∷_, _++_};
 ghost use Prim.Native.Nat.{ℕ, _+_, _*_, _≤_};
 ghost use lib.ListN.{length, take};
 ghost use Rattle.slices.specs.Over.{over};
+ghost use Rattle.definition.specs.Run.{End};
 ghost use Rattle.definition.specs.Player.{lineOf};
 ghost use Rattle.definition.specs.Player.{numbers as Player·numbers};
-ghost use Rattle.going.specs.Onward.{endOf};
-ghost use Rattle.lines.specs.Text.{decimal, hex, rowOf, wordsOf, textOf};
+ghost use Rattle.session_bytes.specs.Session.{isSession};
+ghost use Rattle.lines.specs.Text.{decimal, hex, rowOf, wordsOf, textOf, Printed};
 
 // Call, refusal, value, state, sequence, credit, flow, id, log words.
-fn numbers(call: u32, e: CallEnd) -> [u64; 9]
-    ensures { λ r. ⌜ ((log buf out : List ℕ) → r ≡ call ∷ Player·numbers (endOf e log buf out)) ⌝ }
+fn numbers(call: u32, r: RunEnd, s: &[u8]) -> [u64; 9]
+    requires { ⌜ isSession (now s) ≡ true ⌝ }
+    ensures { λ n. ⌜ ((e : End) (log : List ℕ) → Printed e log (now (s .entry)) r → n ≡ call ∷ Player·numbers e) ⌝ }
 {
-    let st = e.st;
-    let sdpcm = st.sdpcm;
-    let link = st.link;
-    let state = link.state;
-    let outcome = e.outcome;
+    let kind = r.kind;
+    let sdpcm = sdpcm_at(s);
+    let state = wifi_at(s);
     [
         call as u64,
-        refusal_of(outcome) as u64,
-        value_of(outcome),
+        refusal_number(kind) as u64,
+        r.value,
         state_number(state) as u64,
         sdpcm.packet_tx_seq as u64,
         sdpcm.last_bus_data_credit as u64,
         sdpcm.wlan_flow_control as u64,
         sdpcm.requested_ioctl_id as u64,
-        e.len as u64,
+        r.len as u64,
     ]
 }
 
@@ -88,15 +90,16 @@ fn put_words(text: &mut [u8], at: usize, log: &[u32]) -> usize
     at + 9 * log.len()
 }
 
-// The lines of a call; gives their length.
-pub fn put_lines(text: &mut [u8], call: u32, e: CallEnd, log: &[u32]) -> usize
+// The lines of a call that ended with r and left the session s; gives their length.
+pub fn put_lines(text: &mut [u8], call: u32, r: RunEnd, s: &[u8], log: &[u32]) -> usize
+    requires { ⌜ isSession (now s) ≡ true ⌝ }
     requires { ⌜ 73917 ≤ length (now text) ⌝ }
     requires { ⌜ length (now log) ≤ 8192 ⌝ }
-    ensures { λ r. ⌜ ((buf out : List ℕ) → take r (now (text .exit)) ≡ textOf (lineOf call (endOf e (now (log .entry)) buf out))) ⌝ }
-    ensures { λ r. ⌜ r ≤ length (now (text .exit)) ⌝ }
+    ensures { λ n. ⌜ ((e : End) → Printed e (now (log .entry)) (now (s .entry)) r → take n (now (text .exit)) ≡ textOf (lineOf call e)) ⌝ }
+    ensures { λ n. ⌜ n ≤ length (now (text .exit)) ⌝ }
 {
-    let ns = numbers(call, e);
+    let ns = numbers(call, r, s);
     let at = put_numbers(text, &ns);
-    let n = slices::fitting(log.len(), 0, e.len);
+    let n = slices::fitting(log.len(), 0, r.len);
     put_words(text, at, &log[..n])
 }

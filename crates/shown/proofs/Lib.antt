@@ -1,3 +1,4 @@
 pub mod Replies
+pub mod Reports
 pub mod Signs
 pub mod Sums

@@ -14,7 +14,8 @@ use Rattle.wlan.specs.declared.Success.{Success}
 use Rattle.wlan.specs.declared.WlanPollResult.{WlanPollResult}
 use Rattle.wlan.specs.declared.PendingResp.{PendingResp}
 use Rattle.wlan.specs.declared.PendingRx.{PendingRx}
-use Rattle.wlan.specs.declared.State.{State}
+use Rattle.wlan.specs.declared.ScanMarks.{ScanMarks}
+use Rattle.wlan.specs.declared.Sdpcm.{Sdpcm}
 
 abbrev pub flagOf : Bool → ℕ
 flagOf b = pick b 1 0
@@ -77,10 +78,5 @@ tickOf StartedTick.None = 0 ∷ 0 ∷ []
 tickOf (StartedTick.Some n) = 1 ∷ n ∷ []
 
 -- mark, scan marks, auth
-unfoldable pub marksOf : State → List ℕ
-marksOf s =
-    flagOf (s .sdpcm .«had_successful_packet»)
-    ∷ flagOf (s .scan .«scan_done»)
-    ∷ flagOf (s .scan .«scan_in_progress»)
-    ∷ authOf (s .link .«current_auth»)
-    ∷ []
+unfoldable pub marksOf : Sdpcm → ScanMarks → WifiAuth → List ℕ
+marksOf s m a = flagOf (s .«had_successful_packet») ∷ flagOf (m .«scan_done») ∷ flagOf (m .«scan_in_progress») ∷ authOf a ∷ []

@@ -1,17 +1,19 @@
 // All that a call leaves, as numbers.
 use crate::sum::bits32;
+use run_end::RunEnd;
+use state_bytes::parts::failure_of;
 use wlan::ConnectFailure;
-use wlan::Outcome;
 use wlan::PendingResp;
 use wlan::PendingRx;
+use wlan::ScanMarks;
+use wlan::Sdpcm;
 use wlan::StartedTick;
-use wlan::State;
-use wlan::Success;
 use wlan::WifiAuth;
 use wlan::WifiConnectFailure;
-use wlan::WlanPollResult;
 ghost use mathlib.Core.Path.{_≡_};
 ghost use mathlib.Core.List.{[], _∷_};
+ghost use Rattle.wlan.specs.declared.Outcome.{Outcome};
+ghost use Rattle.run_end.specs.RunEnd.{Tells};
 ghost use Rattle.shown.specs.Shown as to;
 
 pub fn reply(r: PendingResp) -> [u64; 4]
@@ -65,35 +67,12 @@ pub fn kept(f: ConnectFailure) -> [u64; 3]
     }
 }
 
-fn polled(p: WlanPollResult) -> [u64; 3]
-    ensures { λ n. ⌜ n ≡ to.polledOf p ⌝ }
+// The failed join that a poll reports.
+pub fn reported(r: RunEnd) -> [u64; 3]
+    ensures { λ n. ⌜ ((o : Outcome) → Tells r o → n ≡ to.reportedOf o) ⌝ }
 {
-    match p {
-        WlanPollResult::None => three(0, 0, 0),
-        WlanPollResult::Rx => three(0, 0, 0),
-        WlanPollResult::ConnectFailed(f) => failure(f),
-    }
-}
-
-fn success(s: Success) -> [u64; 3]
-    ensures { λ n. ⌜ n ≡ to.successOf s ⌝ }
-{
-    match s {
-        Success::Done => three(0, 0, 0),
-        Success::Polled(p) => polled(p),
-        Success::Taken(_) => three(0, 0, 0),
-        Success::Mac(_) => three(0, 0, 0),
-        Success::Word(_) => three(0, 0, 0),
-    }
-}
-
-pub fn reported(o: Outcome) -> [u64; 3]
-    ensures { λ n. ⌜ n ≡ to.reportedOf o ⌝ }
-{
-    match o {
-        Outcome::Ok(s) => success(s),
-        Outcome::Refused(_) => three(0, 0, 0),
-    }
+    let f = r.failure;
+    kept(failure_of(f))
 }
 
 pub fn tick(t: StartedTick) -> [u64; 2]
@@ -124,13 +103,9 @@ fn flag(b: bool) -> u64
     if b { 1 } else { 0 }
 }
 
-pub fn marks(st: State) -> [u64; 4]
-    ensures { λ n. ⌜ n ≡ to.marksOf st ⌝ }
+pub fn marks(sdpcm: Sdpcm, scan: ScanMarks, a: WifiAuth) -> [u64; 4]
+    ensures { λ n. ⌜ n ≡ to.marksOf sdpcm scan a ⌝ }
 {
-    let sdpcm = st.sdpcm;
-    let scan = st.scan;
-    let link = st.link;
-    let a = link.current_auth;
     [
         flag(sdpcm.had_successful_packet),
         flag(scan.scan_done),

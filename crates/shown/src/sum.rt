@@ -1,12 +1,15 @@
 // Sums over what is too long to print.
-use wlan::ScanList;
-use wlan::ScanRecord;
+use hearing::count_in;
+use words::get_le16;
+use words::signed16;
 ghost use mathlib.Core.Path.{_≡_};
-ghost use Prim.Native.Nat.{_<_, min};
-ghost use lib.ListN.{take};
+ghost use Prim.Native.Nat.{_≤_, _<_, min};
+ghost use lib.ListN.{length};
 ghost use mir.Syntax.{w16, w32};
 ghost use mir.Val.{ofZ};
-ghost use Rattle.shown.specs.Sum.{limit, sumNext, sumFrom, sumRecord, sumRecords, sumList};
+ghost use Rattle.session_bytes.specs.ListBytes.{recordOf};
+ghost use Rattle.session_bytes.specs.Session.{sessionIn};
+ghost use Rattle.shown.specs.Sum.{limit, sumNext, sumFrom, sumRecord, sumList};
 
 // The bits of a signed number.
 pub fn bits16(n: i16) -> u16
@@ -65,18 +68,18 @@ pub fn sum_bytes(s: &[u8]) -> u64
     sum_from(0, s)
 }
 
-fn sum_record(h: u64, r: ScanRecord) -> u64
+// The record that the first 42 bytes hold.
+fn sum_record(h: u64, p: &[u8]) -> u64
     requires { ⌜ h < limit ⌝ }
-    ensures { λ s. ⌜ s ≡ sumRecord h r ⌝ }
+    requires { ⌜ 42 ≤ length (now p) ⌝ }
+    ensures { λ s. ⌜ s ≡ sumRecord h (recordOf (now (p .entry))) ⌝ }
     ensures { λ s. ⌜ s < limit ⌝ }
 {
-    let ssid = r.ssid;
-    let bssid = r.bssid;
-    let rssi = r.rssi;
-    let a = sum_from(h, &ssid);
-    let b = sum_from(a, &bssid);
-    let c = sum_next(b, r.ssid_len as u16);
-    let d = sum_next(c, r.channel as u16);
+    let rssi = signed16(get_le16(p, 40));
+    let a = sum_from(h, &p[..32]);
+    let b = sum_from(a, &p[32..38]);
+    let c = sum_next(b, wide(p[38]));
+    let d = sum_next(c, wide(p[39]));
     sum_next(d, bits16(rssi))
 }
 
@@ -86,23 +89,18 @@ fn heard(n: usize) -> usize
     if n < 32 { n } else { 32 }
 }
 
-fn sum_records(records: [ScanRecord; 32], count: usize) -> u64
-    ensures { λ r. ⌜ r ≡ sumRecords 0 (take (min count 32) records) ⌝ }
+// The scan list of a session, a record at a time.
+pub fn sum_list(s: &[u8]) -> u64
+    requires { ⌜ length (now s) ≡ 1393 ⌝ }
+    ensures { λ r. ⌜ r ≡ sumList (sessionIn (now (s .entry)) .list) ⌝ }
 {
-    let n = heard(count);
+    let n = heard(count_in(s));
     let mut t = 0;
     let mut i = 0;
     while i < n {
-        let r = records[i];
-        t = sum_record(t, r);
+        let at = 49 + 42 * i;
+        t = sum_record(t, &s[at..]);
         i += 1;
     }
     t
-}
-
-pub fn sum_list(l: ScanList) -> u64
-    ensures { λ r. ⌜ r ≡ sumList l ⌝ }
-{
-    let records = l.records;
-    sum_records(records, l.count)
 }

@@ -1,115 +1,71 @@
-use Rattle.byte_calls.proofs.Plays.{played, unlogged, scan-is, leave-is, abort-is, poll-is, mac-is, plain-bad, up-is}
+-- <<
+use Rattle.byte_calls.proofs.Plays.{played, refused}
+-- >>
 use borrow.Author.Needs.{needs}
 use Rattle.byte_calls.proofs.calls.plain.Statement.{statement}
 use Rattle.byte_calls.proofs.calls.plain.Tie as tie
+use Rattle.byte_calls.proofs.calls.plain.Reads as reads
+use Rattle.byte_calls.proofs.calls.plain.Lts as lts
+use Rattle.byte_calls.proofs.plain.plain_args.Reads as plain-args-reads
+use Rattle.run_end.proofs.error_end.Reads as error-end-reads
+use Rattle.runs.proofs.exchanges.run_plain.Reads as run-plain-reads
 
-refused-requires : tie.Need-refused-requires
-refused-requires c κs = search needs
+-- src/calls.rt:173:9
+plain-args-requires : tie.Need-plain-args-requires
+plain-args-requires c κs = search needs
 
-returns : tie.Need-returns
-returns c = unlogged _ _ _ _ _ _ _ _ _ _ (plain-bad _ _ (c .before .before .before .before .before .before .pre) (c .before .if1 .taken)) (c .refused .ensures _ _ _ _)
+-- src/calls.rt:175:23
+enum-known-x : tie.Need-enum-known-x
+enum-known-x c = search needs
 
-wifi-scan-requires : tie.Need-wifi-scan-requires
-wifi-scan-requires c κs = search needs
+-- src/calls.rt:175:29
+run-plain-requires : tie.Need-run-plain-requires
+run-plain-requires c κs = (rw (c .before .before .before .before .before .x .given .1) at (c .before .before .before .before .before .before .before .plain-args .ensures .1), c .before .before .before .before .before .before .before .before .before .before .before .before .before .before .pre .1)
 
-wifi-disconnect-requires : tie.Need-wifi-disconnect-requires
-wifi-disconnect-requires c κs = search needs
+-- src/calls.rt:176:37
+enum-told : tie.Need-enum-told
+enum-told c = search needs
 
-wifi-abort-connect-requires : tie.Need-wifi-abort-connect-requires
-wifi-abort-connect-requires c κs = search needs
+-- src/calls.rt:176:27
+error-end-requires : tie.Need-error-end-requires
+error-end-requires c κs = search needs
 
-wifi-poll-requires : tie.Need-wifi-poll-requires
-wifi-poll-requires c κs = search needs
-
-get-mac-addr-requires : tie.Need-get-mac-addr-requires
-get-mac-addr-requires c κs = search needs
-
-up-requires : tie.Need-up-requires
-up-requires c κs = search needs
-
+-- src/calls.rt:158:1
 same-length : tie.Need-same-length
 same-length c = search needs
 
+-- src/calls.rt:158:1
 same-length-2 : tie.Need-same-length-2
 same-length-2 c = search needs
 
-returns-2 : tie.Need-returns-2
-returns-2 c = played _ _ _ _ _ _ _ (scan-is _ _ (c .before .before .before .before .before .before .before .match .keys1) (c .before .before .before .before .before .before .before .before .if1 .left)) (c .before .before .before .before .wifi-scan .ensures)
-
+-- src/calls.rt:158:1
 same-length-3 : tie.Need-same-length-3
 same-length-3 c = search needs
 
+-- src/calls.rt:158:1
 same-length-4 : tie.Need-same-length-4
 same-length-4 c = search needs
 
-returns-3 : tie.Need-returns-3
-returns-3 c = played _ _ _ _ _ _ _ (leave-is _ _ (c .before .before .before .before .before .before .before .match .keys2) (c .before .before .before .before .before .before .before .before .if1 .left)) (c .before .before .before .before .wifi-disconnect .ensures)
+-- src/calls.rt:158:1
+returns : tie.Need-returns
+returns c = played _ (c .before .before .before .before .before .before .before .before .before .before .before .before .before .before .before .before .before .before .before .before .before .before .before .args .rec .now) (c .before .before .before .before .before .before .before .before .before .before .before .before .before .before .before .before .before .before .before .before .before .before .before .args .log .now) (c .before .before .before .before .before .before .before .before .before .before .before .before .before .before .before .before .before .before .before .before .before .before .before .args .s .now) (c .before .before .before .before .before .before .before .before .before .before .before .before .before .before .before .before .before .before .before .before .before .before .before .args .buf .now) (rw (c .before .before .before .before .before .before .before .before .before .before .before .before .before .before .x .given .1) at (c .before .before .before .before .before .before .before .before .before .before .before .before .before .before .before .before .plain-args .ensures .0)) (c .before .before .before .before .before .before .before .before .run-plain .ensures)
 
-same-length-5 : tie.Need-same-length-5
-same-length-5 c = search needs
-
-same-length-6 : tie.Need-same-length-6
-same-length-6 c = search needs
-
-returns-4 : tie.Need-returns-4
-returns-4 c = played _ _ _ _ _ _ _ (abort-is _ _ (c .before .before .before .before .before .before .before .match .keys3) (c .before .before .before .before .before .before .before .before .if1 .left)) (c .before .before .before .before .wifi-abort-connect .ensures)
-
-same-length-7 : tie.Need-same-length-7
-same-length-7 c = search needs
-
-same-length-8 : tie.Need-same-length-8
-same-length-8 c = search needs
-
-returns-5 : tie.Need-returns-5
-returns-5 c = played _ _ _ _ _ _ _ (poll-is _ _ (c .before .before .before .before .before .before .before .match .keys4) (c .before .before .before .before .before .before .before .before .if1 .left)) (c .before .before .before .before .wifi-poll .ensures)
-
-same-length-9 : tie.Need-same-length-9
-same-length-9 c = search needs
-
-same-length-10 : tie.Need-same-length-10
-same-length-10 c = search needs
-
-returns-6 : tie.Need-returns-6
-returns-6 c = played _ _ _ _ _ _ _ (mac-is _ _ (c .before .before .before .before .before .before .before .match .keys5) (c .before .before .before .before .before .before .before .before .if1 .left)) (c .before .before .before .before .get-mac-addr .ensures)
-
-same-length-11 : tie.Need-same-length-11
-same-length-11 c = search needs
-
-same-length-12 : tie.Need-same-length-12
-same-length-12 c = search needs
-
-returns-7 : tie.Need-returns-7
-returns-7 c =
-    let n = c .before .before .before .before .before .before .before .match .rest in
-    played _ _ _ _ _ _ _ (up-is _ _ (c .before .before .before .before .before .before .before .before .before .before .before .before .before .pre) (n .0 .0 .0 .0 .1) (n .0 .0 .0 .1) (n .0 .0 .1) (n .0 .1) (n .1) (c .before .before .before .before .before .before .before .before .if1 .left)) (c .before .before .before .before .up .ensures)
+-- src/calls.rt:158:1
+returns-2 : tie.Need-returns-2
+returns-2 c = refused (c .before .before .before .before .before .before .before .before .before .before .args .rec .now) (c .before .before .before .before .before .before .before .before .before .before .args .log .now) (c .before .before .before .before .before .before .before .before .before .before .args .s .now) (c .before .before .before .before .before .before .before .before .before .before .args .buf .now) _ (rw (c .before .enum-told .given .1) at (c .before .before .before .plain-args .ensures .0)) (c .before .before .before .before .before .before .before .before .before .before .pre .1 .0) (c .error-end .ensures .0)
 
 pub plain-spec : {M : Type 1} → statement M
 plain-spec =
     tie.close
     (tie.spec
-    refused-requires
-    returns
-    wifi-scan-requires
-    wifi-disconnect-requires
-    wifi-abort-connect-requires
-    wifi-poll-requires
-    get-mac-addr-requires
-    up-requires
+    plain-args-requires
+    enum-known-x
+    run-plain-requires
+    enum-told
+    error-end-requires
     same-length
     same-length-2
-    returns-2
     same-length-3
     same-length-4
-    returns-3
-    same-length-5
-    same-length-6
-    returns-4
-    same-length-7
-    same-length-8
-    returns-5
-    same-length-9
-    same-length-10
-    returns-6
-    same-length-11
-    same-length-12
-    returns-7)
+    returns
+    returns-2)

@@ -1,10 +1,8 @@
-use Prim.Native.Nat.{_≤_, ℕ}
-use mathlib.Core.Path.{ap, _∙_}
-use mathlib.Core.List.{List}
+use Prim.Native.Nat.{_≤_}
+use mathlib.Core.Path.{_∙_}
 use native.Mathlib.Omega.{arith}
-use lib.ListN.{length, take, length-take}
-use Rattle.definition.specs.Player.{line}
-use Rattle.lines.specs.Text.{textOf}
+use lib.ListN.{length, length-take}
+use Rattle.lines.proofs.Ends.{line-is}
 use Rattle.lines.proofs.Texts.{lines-laid}
 use borrow.Author.Needs.{needs}
 use Rattle.lines.proofs.text.put_lines.Statement.{statement}
@@ -33,8 +31,8 @@ same-length c = search needs
 
 returns : tie.Need-returns
 returns c =
-    let k : c .before .before .put-words .result ≤ length (c .before .before .before .before .before .before .before .before .before .before .before .before .before .before .args .text .now) = omega (arith, c .before .before .put-words .ensures .1, length-take (c .before .before .before .before .before .fitting .result) (c .before .before .before .before .before .before .before .before .before .before .before .before .before .before .args .log .now)) in (
-      λ buf out. lines-laid (c .before .before .before .before .before .before .before .before .before .before .before .before .before .before .args .text .now) (c .before .before .before .before .before .before .before .before .put-numbers .last .0) (c .before .before .put-words .last .0) (c .before .before .before .before .before .before .before .before .before .before .before .before .before .before .args .log .now) (c .before .before .before .before .before .before .before .before .before .before .before .numbers .result) (c .before .before .before .before .before .fitting .result) (c .before .before .before .before .before .before .before .before .before .before .before .before .before .before .args .e .len) (c .before .before .before .before .before .before .before .before .put-numbers .result) (c .before .before .put-words .result) (c .before .before .before .before .before .before .before .before .put-numbers .ensures .0) (c .before .before .before .before .before .before .before .before .put-numbers .ensures .1 .0) (c .before .before .before .before .before .fitting .ensures) (c .before .before .put-words .ensures .0) (c .before .before .put-words .ensures .1) k ∙ ap (λ (ns : List ℕ). textOf (line ns (take (c .before .before .before .before .before .before .before .before .before .before .before .before .before .before .args .e .len) (c .before .before .before .before .before .before .before .before .before .before .before .before .before .before .args .log .now)))) (c .before .before .before .before .before .before .before .before .before .before .before .numbers .ensures (c .before .before .before .before .before .before .before .before .before .before .before .before .before .before .args .log .now) buf out),
+    let k : c .before .before .put-words .result ≤ length (c .before .before .before .before .before .before .before .before .before .before .before .before .before .before .before .args .text .now) = omega (arith, c .before .before .put-words .ensures .1, length-take (c .before .before .before .before .before .fitting .result) (c .before .before .before .before .before .before .before .before .before .before .before .before .before .before .before .args .log .now)) in (
+      λ e h. lines-laid (c .before .before .before .before .before .before .before .before .before .before .before .before .before .before .before .args .text .now) (c .before .before .before .before .before .before .before .before .put-numbers .last .0) (c .before .before .put-words .last .0) (c .before .before .before .before .before .before .before .before .before .before .before .before .before .before .before .args .log .now) (c .before .before .before .before .before .before .before .before .before .before .before .numbers .result) (c .before .before .before .before .before .fitting .result) (c .before .before .before .before .before .before .before .before .before .before .before .before .before .before .before .args .r .len) (c .before .before .before .before .before .before .before .before .put-numbers .result) (c .before .before .put-words .result) (c .before .before .before .before .before .before .before .before .put-numbers .ensures .0) (c .before .before .before .before .before .before .before .before .put-numbers .ensures .1 .0) (c .before .before .before .before .before .fitting .ensures) (c .before .before .put-words .ensures .0) (c .before .before .put-words .ensures .1) k ∙ line-is (c .before .before .before .before .before .before .before .before .before .before .before .before .before .before .before .args .call) e (c .before .before .before .before .before .before .before .before .before .before .before .before .before .before .before .args .log .now) (c .before .before .before .before .before .before .before .before .before .before .before .before .before .before .before .args .s .now) (c .before .before .before .before .before .before .before .before .before .before .before .numbers .result) (c .before .before .before .before .before .before .before .before .before .before .before .before .before .before .before .args .r) h (c .before .before .before .before .before .before .before .before .before .before .before .numbers .ensures e (c .before .before .before .before .before .before .before .before .before .before .before .before .before .before .before .args .log .now) h),
       search needs,
     )
 
