@@ -2,7 +2,6 @@
 use crate::now::CallNow;
 use crate::now::exchange_at;
 use crate::now::refuse;
-use crate::plan::BeginKind;
 use control::Job;
 use control::Lens;
 use control::Stage;
@@ -11,6 +10,7 @@ use laying::lay_whole;
 use places::read::sdpcm_at;
 use places::write::put_auth;
 use places::write::put_wifi;
+use plans::BeginKind;
 use replying::IoctlNow;
 use replying::IoctlNowKind;
 use replying::ioctl_start;
@@ -43,6 +43,7 @@ ghost use Rattle.places.specs.Places.{Holds};
 ghost use Rattle.laying.specs.Laying.{LaidKept};
 ghost use Rattle.undo.specs.Undo.{Kept};
 ghost use Rattle.replying.specs.Replying as reply;
+ghost use Rattle.plans.specs.Plans as plans;
 ghost use Rattle.exchanging.specs.Exchanging as at;
 
 // How long a stage's payload is.
@@ -141,7 +142,7 @@ fn lay_by(
 )
     requires { ⌜ Kept (now undo) ⌝ }
     requires { ⌜ length (now buf) ≡ 2048 ⌝ }
-    ensures laid { λ _. ⌜ ((j : job.Job) → now (buf .exit) ≡ laidRequest (argsOf j (now (first .entry)) (now (second .entry))) (at.putBy begin r id) (now (buf .entry))) ⌝ }
+    ensures laid { λ _. ⌜ ((j : job.Job) → now (buf .exit) ≡ laidRequest (argsOf j (now (first .entry)) (now (second .entry))) (plans.putBy begin r id) (now (buf .entry))) ⌝ }
     ensures kept { λ _. ⌜ LaidKept (now (undo .entry)) (now (undo .exit)) (now (buf .entry)) (now (buf .exit)) ⌝ }
 {
     match begin {
@@ -166,7 +167,7 @@ fn begin_put(
     requires { ⌜ isSession (now s) ≡ true ⌝ }
     requires { ⌜ Kept (now undo) ⌝ }
     requires { ⌜ length (now buf) ≡ 2048 ⌝ }
-    ensures { λ r. ⌜ ((h : Bool) (before : Before) (c₀ : Bytes) → now (buf .entry) ≡ laidBefore before c₀ → at.Acts (argsOf j (now (first .entry)) (now (second .entry))) (now (undo .entry)) (now (undo .exit)) (now (s .entry)) (now (s .exit)) c₀ (now (buf .entry)) (now (buf .exit)) r h (at.begunBy begin j l g (sessionIn (now (s .entry)) .st) h before)) ⌝ }
+    ensures { λ r. ⌜ ((h : Bool) (before : Before) (c₀ : Bytes) → now (buf .entry) ≡ laidBefore before c₀ → at.Acts (argsOf j (now (first .entry)) (now (second .entry))) (now (undo .entry)) (now (undo .exit)) (now (s .entry)) (now (s .exit)) c₀ (now (buf .entry)) (now (buf .exit)) r h (plans.begunBy begin j l g (sessionIn (now (s .entry)) .st) h before)) ⌝ }
 {
     let r = request_at(j, g);
     let id = new_id(s);
@@ -176,7 +177,7 @@ fn begin_put(
 
 pub fn connecting(s: &mut [u8], a: WifiAuth)
     requires { ⌜ isSession (now s) ≡ true ⌝ }
-    ensures { λ _. ⌜ Holds (now (s .exit)) (withState (now (s .entry)) (at.connectingBy a (sessionIn (now (s .entry)) .st))) ⌝ }
+    ensures { λ _. ⌜ Holds (now (s .exit)) (withState (now (s .entry)) (plans.connectingBy a (sessionIn (now (s .entry)) .st))) ⌝ }
 {
     put_auth(s, a);
     put_wifi(s, WifiState::Connecting);
@@ -185,7 +186,7 @@ pub fn connecting(s: &mut [u8], a: WifiAuth)
 // Join's last request begins with the link's state.
 fn connect_by(begin: BeginKind, s: &mut [u8], a: WifiAuth)
     requires { ⌜ isSession (now s) ≡ true ⌝ }
-    ensures { λ _. ⌜ Holds (now (s .exit)) (withState (now (s .entry)) (at.stateBy begin a (sessionIn (now (s .entry)) .st))) ⌝ }
+    ensures { λ _. ⌜ Holds (now (s .exit)) (withState (now (s .entry)) (plans.stateBy begin a (sessionIn (now (s .entry)) .st))) ⌝ }
 {
     match begin {
         BeginKind::Whole => {}
@@ -208,7 +209,7 @@ pub fn begin(
     requires { ⌜ isSession (now s) ≡ true ⌝ }
     requires { ⌜ Kept (now undo) ⌝ }
     requires { ⌜ length (now buf) ≡ 2048 ⌝ }
-    ensures { λ r. ⌜ ((h : Bool) (before : Before) (c₀ : Bytes) → now (buf .entry) ≡ laidBefore before c₀ → at.Acts (argsOf j (now (first .entry)) (now (second .entry))) (now (undo .entry)) (now (undo .exit)) (now (s .entry)) (now (s .exit)) c₀ (now (buf .entry)) (now (buf .exit)) r h (at.beginBy begin j l g (sessionIn (now (s .entry)) .st) h before)) ⌝ }
+    ensures { λ r. ⌜ ((h : Bool) (before : Before) (c₀ : Bytes) → now (buf .entry) ≡ laidBefore before c₀ → at.Acts (argsOf j (now (first .entry)) (now (second .entry))) (now (undo .entry)) (now (undo .exit)) (now (s .entry)) (now (s .exit)) c₀ (now (buf .entry)) (now (buf .exit)) r h (plans.beginBy begin j l g (sessionIn (now (s .entry)) .st) h before)) ⌝ }
 {
     let a = j.auth;
     connect_by(begin, s, a);

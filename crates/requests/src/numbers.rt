@@ -106,8 +106,10 @@ fn larger(n: usize, m: usize) -> usize
     if n < m { m } else { n }
 }
 
-pub fn payload_len(r: Request, first: &[u8], second: &[u8]) -> usize
-    ensures { λ n. ⌜ n ≡ number.payloadLength r (length (now (first .entry))) (length (now (second .entry))) ⌝ }
+// The payload's length, where the call's byte arguments have n and m bytes.
+pub fn length_of(r: Request, n: usize, m: usize) -> usize
+    requires { ⌜ (n < 9223372036854775808) × (m < 9223372036854775808) ⌝ }
+    ensures { λ k. ⌜ k ≡ number.payloadLength r n m ⌝ }
 {
     match r {
         Request::Country(_) => 20,
@@ -126,11 +128,17 @@ pub fn payload_len(r: Request, first: &[u8], second: &[u8]) -> usize
         Request::Escan => 82,
         Request::CurrentAddress => 20,
         Request::Up => 0,
-        Request::Ssid => 4 + larger(first.len(), 32),
-        Request::Key => 4 + larger(second.len(), 64),
-        Request::SaePassword => 15 + larger(second.len(), 128),
-        Request::Variable(_) => first.len() + 1 + second.len(),
+        Request::Ssid => 4 + larger(n, 32),
+        Request::Key => 4 + larger(m, 64),
+        Request::SaePassword => 15 + larger(m, 128),
+        Request::Variable(_) => n + 1 + m,
     }
+}
+
+pub fn payload_len(r: Request, first: &[u8], second: &[u8]) -> usize
+    ensures { λ n. ⌜ n ≡ number.payloadLength r (length (now (first .entry))) (length (now (second .entry))) ⌝ }
+{
+    length_of(r, first.len(), second.len())
 }
 
 fn one_of(n: u32, list: &[u32]) -> bool
