@@ -36,6 +36,35 @@ nextBy CallKind.Refused r = CallNext.Refused (r .error)
 abbrev pub nextOf : CallNow → CallNext
 nextOf r = nextBy (r .kind) r
 
+-- ---- a stage's payload
+
+-- its length, where no byte argument changes it
+unfoldable pub fixedLen : Stage → ℕ
+fixedLen Stage.Country = 20
+fixedLen Stage.AntDiv = 4
+fixedLen Stage.Txglom = 15
+fixedLen Stage.Apsta = 10
+fixedLen Stage.BaWsize = 19
+fixedLen Stage.Mpdu = 15
+fixedLen Stage.RxFactor = 20
+fixedLen Stage.EventMessages = 41
+fixedLen Stage.InitUp = 0
+fixedLen Stage.JoinBaWsize = 19
+fixedLen Stage.Wsec = 4
+fixedLen Stage.SupWpa = 23
+fixedLen Stage.Eapver = 31
+fixedLen Stage.SupWpaTmo = 27
+fixedLen Stage.Key = 0
+fixedLen Stage.Sae = 0
+fixedLen Stage.Infra = 4
+fixedLen Stage.Auth = 4
+fixedLen Stage.Mfp = 8
+fixedLen Stage.WpaAuth = 4
+fixedLen Stage.Ssid = 0
+fixedLen Stage.Escan = 82
+fixedLen Stage.Disassoc = 4
+fixedLen Stage.Single = 0
+
 -- ---- what a step leaves
 
 -- it changes the state alone: y is laid already, and what was heard before it is in the list

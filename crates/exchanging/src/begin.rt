@@ -46,36 +46,37 @@ ghost use Rattle.replying.specs.Replying as reply;
 ghost use Rattle.plans.specs.Plans as plans;
 ghost use Rattle.exchanging.specs.Exchanging as at;
 
+// The length of a payload that no byte argument changes.
+fn fixed_len(g: Stage) -> u16
+    ensures { λ n. ⌜ n ≡ at.fixedLen g ⌝ }
+{
+    match g {
+        Stage::Country | Stage::RxFactor => 20,
+        Stage::AntDiv | Stage::Wsec | Stage::Infra | Stage::Auth | Stage::WpaAuth | Stage::Disassoc => 4,
+        Stage::Txglom | Stage::Mpdu => 15,
+        Stage::Apsta => 10,
+        Stage::BaWsize | Stage::JoinBaWsize => 19,
+        Stage::EventMessages => 41,
+        Stage::SupWpa => 23,
+        Stage::Eapver => 31,
+        Stage::SupWpaTmo => 27,
+        Stage::Mfp => 8,
+        Stage::Escan => 82,
+        _ => 0,
+    }
+}
+
 // How long a stage's payload is.
 pub fn stage_len(j: Job, g: Stage, l: Lens) -> u16
     ensures { λ n. ⌜ n ≡ requestLen (requestAt j g) l ⌝ }
 {
     let single = j.request;
     match g {
-        Stage::Country => 20,
-        Stage::AntDiv => 4,
-        Stage::Txglom => 15,
-        Stage::Apsta => 10,
-        Stage::BaWsize => 19,
-        Stage::Mpdu => 15,
-        Stage::RxFactor => 20,
-        Stage::EventMessages => 41,
-        Stage::InitUp => 0,
-        Stage::JoinBaWsize => 19,
-        Stage::Wsec => 4,
-        Stage::SupWpa => 23,
-        Stage::Eapver => 31,
-        Stage::SupWpaTmo => 27,
         Stage::Key => request_len(Request::Key, l),
         Stage::Sae => request_len(Request::SaePassword, l),
-        Stage::Infra => 4,
-        Stage::Auth => 4,
-        Stage::Mfp => 8,
-        Stage::WpaAuth => 4,
         Stage::Ssid => request_len(Request::Ssid, l),
-        Stage::Escan => 82,
-        Stage::Disassoc => 4,
         Stage::Single => request_len(single, l),
+        _ => fixed_len(g),
     }
 }
 
