@@ -12,6 +12,7 @@ use Rattle.control.specs.declared.CallNext.{CallNext}
 use Rattle.control.specs.declared.CallPoint.{CallPoint}
 use Rattle.control.specs.declared.CallStep.{CallStep}
 use Rattle.control.specs.declared.Lay.{Lay}
+use Rattle.control.specs.declared.Stage.{Stage}
 use Rattle.control.specs.Steps.{lays, step}
 use Rattle.control.specs.Meaning.{Args, laidAll}
 use Rattle.session_bytes.specs.declared.session.Session.{Session}

@@ -52,7 +52,12 @@ fn fixed_len(g: Stage) -> u16
 {
     match g {
         Stage::Country | Stage::RxFactor => 20,
-        Stage::AntDiv | Stage::Wsec | Stage::Infra | Stage::Auth | Stage::WpaAuth | Stage::Disassoc => 4,
+        Stage::AntDiv
+        | Stage::Wsec
+        | Stage::Infra
+        | Stage::Auth
+        | Stage::WpaAuth
+        | Stage::Disassoc => 4,
         Stage::Txglom | Stage::Mpdu => 15,
         Stage::Apsta => 10,
         Stage::BaWsize | Stage::JoinBaWsize => 19,

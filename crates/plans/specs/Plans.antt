@@ -87,6 +87,33 @@ planned r j l s h before = planBy (r .kind) r j l s h before
 
 -- ---- after an exchange
 
+-- the stage that follows at once, where one does
+unfoldable pub nextStage : Stage → Stage
+nextStage Stage.Country = Stage.Single
+nextStage Stage.AntDiv = Stage.Txglom
+nextStage Stage.Txglom = Stage.Apsta
+nextStage Stage.Apsta = Stage.BaWsize
+nextStage Stage.BaWsize = Stage.Mpdu
+nextStage Stage.Mpdu = Stage.RxFactor
+nextStage Stage.RxFactor = Stage.Single
+nextStage Stage.EventMessages = Stage.Single
+nextStage Stage.InitUp = Stage.Single
+nextStage Stage.JoinBaWsize = Stage.Single
+nextStage Stage.Wsec = Stage.SupWpa
+nextStage Stage.SupWpa = Stage.Eapver
+nextStage Stage.Eapver = Stage.SupWpaTmo
+nextStage Stage.SupWpaTmo = Stage.Single
+nextStage Stage.Key = Stage.Single
+nextStage Stage.Sae = Stage.Infra
+nextStage Stage.Infra = Stage.Auth
+nextStage Stage.Auth = Stage.Mfp
+nextStage Stage.Mfp = Stage.WpaAuth
+nextStage Stage.WpaAuth = Stage.Single
+nextStage Stage.Ssid = Stage.Single
+nextStage Stage.Escan = Stage.Single
+nextStage Stage.Disassoc = Stage.Single
+nextStage Stage.Single = Stage.Single
+
 unfoldable pub stopStep : Stage → DriverError → State → Bool → Before → CallStep
 stopStep g e s h before = pick (isDevError e) (pick (isLast g) (refuses (linkedState s WifiState.Down) h before e) (refuses s h before e)) (refuses s h before e)
 

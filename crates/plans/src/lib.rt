@@ -191,35 +191,46 @@ fn ssid_plan(long: bool) -> Plan
     }
 }
 
+// The stage that follows at once, where one does.
+fn next_stage(g: Stage) -> Stage
+    ensures { λ r. ⌜ r ≡ at.nextStage g ⌝ }
+{
+    match g {
+        Stage::AntDiv => Stage::Txglom,
+        Stage::Txglom => Stage::Apsta,
+        Stage::Apsta => Stage::BaWsize,
+        Stage::BaWsize => Stage::Mpdu,
+        Stage::Mpdu => Stage::RxFactor,
+        Stage::Wsec => Stage::SupWpa,
+        Stage::SupWpa => Stage::Eapver,
+        Stage::Eapver => Stage::SupWpaTmo,
+        Stage::Sae => Stage::Infra,
+        Stage::Infra => Stage::Auth,
+        Stage::Auth => Stage::Mfp,
+        Stage::Mfp => Stage::WpaAuth,
+        _ => Stage::Single,
+    }
+}
+
+// After a stage.
 pub fn plan_of(j: Job, g: Stage) -> Plan
     ensures { λ r. ⌜ ((l : Lens) (s : State) (h : Bool) (before : Before) → to.afterStep j l g s h before ≡ at.planned r j l s h before) ⌝ }
 {
     let a = j.auth;
     match g {
         Stage::Country => pauses(PauseKind::AfterCountry),
-        Stage::AntDiv => begins(Stage::Txglom),
-        Stage::Txglom => begins(Stage::Apsta),
-        Stage::Apsta => begins(Stage::BaWsize),
-        Stage::BaWsize => begins(Stage::Mpdu),
-        Stage::Mpdu => begins(Stage::RxFactor),
         Stage::RxFactor => only(PlanKind::Clock),
         Stage::EventMessages => pauses(PauseKind::AfterEventMessages),
         Stage::InitUp => pauses(PauseKind::AfterUp),
         Stage::JoinBaWsize => length_plan(j.long_passphrase),
-        Stage::Wsec => begins(Stage::SupWpa),
-        Stage::SupWpa => begins(Stage::Eapver),
-        Stage::Eapver => begins(Stage::SupWpaTmo),
         Stage::SupWpaTmo => key_plan(a),
         Stage::Key => sae_plan(a),
-        Stage::Sae => begins(Stage::Infra),
-        Stage::Infra => begins(Stage::Auth),
-        Stage::Auth => begins(Stage::Mfp),
-        Stage::Mfp => begins(Stage::WpaAuth),
         Stage::WpaAuth => ssid_plan(j.long_ssid),
         Stage::Ssid => only(PlanKind::Done),
         Stage::Escan => only(PlanKind::Scan),
         Stage::Disassoc => only(PlanKind::Tick),
         Stage::Single => only(PlanKind::Give),
+        _ => begins(next_stage(g)),
     }
 }
 
