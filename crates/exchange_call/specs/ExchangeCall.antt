@@ -28,8 +28,8 @@ use Rattle.asking.specs.Asking.{followed, unlessBack}
 use Rattle.replying.specs.declared.IoctlAt.{IoctlAt}
 use Rattle.replying.specs.declared.IoctlNow.{IoctlNow}
 use Rattle.replying.specs.Replying as reply
-use Rattle.exchanging.specs.declared.plan.Plan.{Plan}
-use Rattle.exchanging.specs.Exchanging.{planned, isAsk}
+use Rattle.plans.specs.declared.Plan.{Plan}
+use Rattle.plans.specs.Plans.{planned, isAsk}
 use Rattle.turning.specs.Turning.{worldIn, isBack, Ends}
 use Rattle.exchange_call.specs.declared.CallTurned.{CallTurned}
 use Rattle.exchange_call.specs.declared.IoctlTurned.{IoctlTurned}

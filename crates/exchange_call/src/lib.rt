@@ -17,14 +17,14 @@ use exchanging::act::act;
 use exchanging::begin::stage_len;
 use exchanging::now::CallKind;
 use exchanging::now::CallNow;
-use exchanging::now::PauseKind;
-use exchanging::plan::Plan;
-use exchanging::plan::begins;
-use exchanging::plan::clock_plan;
-use exchanging::plan::exchange_plan;
-use exchanging::plan::fault_plan;
-use exchanging::plan::resume_of;
-use exchanging::plan::tick_plan;
+use plans::PauseKind;
+use plans::Plan;
+use plans::begins;
+use plans::clock_plan;
+use plans::exchange_plan;
+use plans::fault_plan;
+use plans::resume_of;
+use plans::tick_plan;
 use replying::IoctlAt;
 use replying::IoctlNow;
 use replying::IoctlNowKind;
@@ -61,6 +61,7 @@ ghost use Rattle.undo.specs.Undo.{Kept};
 ghost use Rattle.asking.specs.Asking.{Asks, askedOf};
 ghost use Rattle.laying.specs.Laying.{LaidKept};
 ghost use Rattle.replying.specs.Replying.{pointOf};
+ghost use Rattle.plans.specs.Plans as plans;
 ghost use Rattle.exchanging.specs.Exchanging as at;
 ghost use Rattle.run_end.specs.RunEnd as ending;
 ghost use Rattle.turning.specs.Turning as turning;
@@ -76,7 +77,7 @@ pub struct IoctlTurned {
 }
 
 fn is_ask(k: IoctlNowKind) -> bool
-    ensures { λ r. ⌜ r ≡ at.isAsk k ⌝ }
+    ensures { λ r. ⌜ r ≡ plans.isAsk k ⌝ }
 {
     match k {
         IoctlNowKind::Ask => true,
@@ -96,7 +97,7 @@ fn ioctl_turned(on: bool, n: IoctlNow, a: Asked) -> IoctlTurned
 }
 
 fn answered(n: IoctlNow, a: Asked) -> IoctlTurned
-    ensures { λ r. ⌜ (r .on ≡ at.isAsk (n .kind)) × (r .now ≡ n) × (r .asked ≡ a) ⌝ }
+    ensures { λ r. ⌜ (r .on ≡ plans.isAsk (n .kind)) × (r .now ≡ n) × (r .asked ≡ a) ⌝ }
 {
     let k = n.kind;
     ioctl_turned(is_ask(k), n, a)
@@ -292,7 +293,7 @@ fn exchange_turn(
 }
 
 fn pause_ns(p: PauseKind, ns: u32) -> u32
-    ensures { λ r. ⌜ r ≡ pauseNs (at.pauseBy p ns) ⌝ }
+    ensures { λ r. ⌜ r ≡ pauseNs (plans.pauseBy p ns) ⌝ }
 {
     match p {
         PauseKind::AfterCountry => 50_000_000,
@@ -306,7 +307,7 @@ fn pause_ns(p: PauseKind, ns: u32) -> u32
 
 // A wait.
 fn pause_turn(p: PauseKind, ns: u32, pos: usize, len: usize, log: &mut [u32]) -> CallTurned
-    ensures on { λ r. ⌜ ((a : Args) (e : World) (rec b : List ℕ) (buf : Bytes) → length (a .first) + length (a .second) < 60000 → to.Turns a e (go e (drop pos rec) (now (log .entry)) len (callTree a (next.CallNext.Ask (point.CallPoint.Pause (at.pauseBy p ns))) (turning.worldIn b buf))) rec r (now (log .exit)) b buf) ⌝ }
+    ensures on { λ r. ⌜ ((a : Args) (e : World) (rec b : List ℕ) (buf : Bytes) → length (a .first) + length (a .second) < 60000 → to.Turns a e (go e (drop pos rec) (now (log .entry)) len (callTree a (next.CallNext.Ask (point.CallPoint.Pause (plans.pauseBy p ns))) (turning.worldIn b buf))) rec r (now (log .exit)) b buf) ⌝ }
     ensures grew { λ r. ⌜ (r .on ≡ true → (len < r .end .len) × (r .end .len ≤ length (now (log .entry)))) ⌝ }
 {
     let a = ask_wait(pause_ns(p, ns), pos, len, log);

@@ -1,15 +1,13 @@
 -- What a step of a call's exchanges leaves: where it changes the state alone, after something was laid, after a change of the state, and
 -- after a step of `do_ioctl`.
 use Prim.Native.Nat.{ℕ}
-use mathlib.Core.Path.{_≡_, refl, sym, ap, _∙_}
-use mathlib.Core.Bool.{Bool, true, false, true≢false}
+use mathlib.Core.Path.{_≡_, refl, ap, _∙_}
+use mathlib.Core.Bool.{Bool, true}
 use mathlib.Core.List.{List}
-use Rattle.slices.specs.Pick.{pick}
 use Rattle.wlan.specs.declared.ScanMarks.{ScanMarks}
 use Rattle.wlan.specs.declared.State.{State}
 use Rattle.wlan.specs.State.{withScan}
 use Rattle.definition.specs.Bus.{Bytes}
-use Rattle.definition.specs.Join.{isDevError}
 use Rattle.definition.specs.Scan.{cleared}
 use Rattle.send.specs.declared.HeaderPut.{HeaderPut}
 use Rattle.send.specs.Meaning.{laidHeader}
@@ -17,12 +15,9 @@ use Rattle.ioctl.specs.declared.IoctlStep.{IoctlStep}
 use Rattle.control.specs.declared.Before.{Before}
 use Rattle.control.specs.declared.CallNext.{CallNext}
 use Rattle.control.specs.declared.CallStep.{CallStep}
-use Rattle.control.specs.declared.Job.{Job}
 use Rattle.control.specs.declared.Lay.{Lay}
-use Rattle.control.specs.declared.Lens.{Lens}
 use Rattle.control.specs.declared.RequestPut.{RequestPut}
 use Rattle.control.specs.declared.Stage.{Stage}
-use Rattle.control.specs.Stages.{isTried}
 use Rattle.control.specs.Steps.{lays, layBefore, step}
 use Rattle.control.specs.Exchange as to
 use Rattle.control.specs.Meaning.{Args, laidBefore, laidRequest, laidAll}
@@ -36,10 +31,9 @@ use Rattle.undo.specs.Undo.{Kept, backSession}
 use Rattle.undo.proofs.Laws.{front-changed}
 use Rattle.laying.specs.Laying.{LaidKept}
 use Rattle.replying.specs.declared.IoctlNow.{IoctlNow}
-use Rattle.replying.specs.declared.IoctlNowKind.{IoctlNowKind}
 use Rattle.replying.specs.Replying as reply
 use Rattle.exchanging.specs.declared.now.CallNow.{CallNow}
-use Rattle.exchanging.specs.Exchanging.{nextOf, Sets, Clears, leftBy, Acts, isAsk, goesOn, isIgnored, stopStep, beforeIn}
+use Rattle.exchanging.specs.Exchanging.{nextOf, Sets, Clears, leftBy, Acts}
 
 -- the state alone changed, so what is kept gives the same
 front-kept : (u b : List ℕ) {d : List ℕ} (t : State) → Kept u → isSession b ≡ true → Holds d (withState b t) → backSession u d ≡ backSession u b
@@ -158,29 +152,3 @@ begun {a} {u} {v} {b} {m} {d} {c₀} {c} {f} {n} {r} x g h before put e k q =
       session = front-kept v m (to.begun x g h before put .st) (k .kept) (k .held .known) (p .held) ∙ k .session;
       buf = k .buf;
     }
-
--- ---- after an exchange
-
-by-next : (j : Job) (l : Lens) (g : Stage) (s : State) (h : Bool) (x : HeaderPut) (n : IoctlNow) (k : IoctlNowKind) → isAsk k ≡ false
-    → (goesOn k g (n .error) ≡ true → to.exchangeNext j l g s h (reply.nextBy k n x) ≡ to.afterStep j l g s h (beforeIn (reply.nextBy k n x)))
-    × (goesOn k g (n .error) ≡ false → to.exchangeNext j l g s h (reply.nextBy k n x) ≡ stopStep g (n .error) s h (beforeIn (reply.nextBy k n x)))
-unfolding goesOn isIgnored stopStep beforeIn reply.nextBy to.exchangeNext to.failedStep
-by-next j l g s h x n IoctlNowKind.Ask i = absurd (true≢false i)
-by-next j l g s h x n IoctlNowKind.Done i = (λ o. refl, λ o. absurd (true≢false o))
-by-next j l g s h x n IoctlNowKind.Refused i = by (isDevError (n .error)) (isTried g) _ _ _
-  where
-    by : (d t : Bool) (p q r : CallStep) → (pick d t false ≡ true → pick d (pick t p q) r ≡ p) × (pick d t false ≡ false → pick d (pick t p q) r ≡ pick d q r)
-    by true true p q r = (λ o. refl, λ o. absurd (true≢false o))
-    by true false p q r = (λ o. absurd (true≢false (sym o)), λ o. refl)
-    by false t p q r = (λ o. absurd (true≢false (sym o)), λ o. refl)
-
-pub next-on : (j : Job) (l : Lens) (g : Stage) (s : State) (h : Bool) (x : HeaderPut) (n : IoctlNow) → isAsk (n .kind) ≡ false → goesOn (n .kind) g (n .error) ≡ true
-    → to.exchangeNext j l g s h (reply.nextOf n x) ≡ to.afterStep j l g s h (beforeIn (reply.nextOf n x))
-next-on j l g s h x n i o = by-next j l g s h x n (n .kind) i .0 o
-
-pub next-off : (j : Job) (l : Lens) (g : Stage) (s : State) (h : Bool) (x : HeaderPut) (n : IoctlNow) → isAsk (n .kind) ≡ false → goesOn (n .kind) g (n .error) ≡ false
-    → to.exchangeNext j l g s h (reply.nextOf n x) ≡ stopStep g (n .error) s h (beforeIn (reply.nextOf n x))
-next-off j l g s h x n i o = by-next j l g s h x n (n .kind) i .1 o
-
-pub same-kept : {u : List ℕ} {c : Bytes} → Kept u → LaidKept u u c c
-same-kept k = record { kept = k; session = λ s. refl; buf = refl }

@@ -2,14 +2,11 @@
 use crate::begin::begin;
 use crate::begin::connecting;
 use crate::now::CallNow;
-use crate::now::PauseKind;
 use crate::now::clock_at;
 use crate::now::end;
 use crate::now::pause_at;
 use crate::now::refuse;
 use crate::now::tick_at;
-use crate::plan::Plan;
-use crate::plan::PlanKind;
 use control::Ending;
 use control::Job;
 use control::Lens;
@@ -18,6 +15,9 @@ use laying::lay_payload;
 use places::write::put_marks;
 use places::write::put_tick;
 use places::write::put_wifi;
+use plans::PauseKind;
+use plans::Plan;
+use plans::PlanKind;
 use requests::Request;
 use wlan::DriverError;
 use wlan::ScanMarks;
@@ -39,11 +39,12 @@ ghost use Rattle.control.specs.Exchange as to;
 ghost use Rattle.effects.specs.Args.{argsOf};
 ghost use Rattle.session_bytes.specs.Session.{isSession, sessionIn};
 ghost use Rattle.undo.specs.Undo.{Kept};
+ghost use Rattle.plans.specs.Plans as plans;
 ghost use Rattle.exchanging.specs.Exchanging as at;
 
 fn refuse_join(s: &mut [u8], a: WifiAuth) -> CallNow
     requires { ⌜ isSession (now s) ≡ true ⌝ }
-    ensures { λ r. ⌜ ((h : Bool) (before : Before) → at.Sets (now (s .entry)) (now (s .exit)) r h (layBefore before) (refuses (linkedState (at.connectingBy a (sessionIn (now (s .entry)) .st)) wifi.WifiState.Down) h before error.DriverError.InvalidArg)) ⌝ }
+    ensures { λ r. ⌜ ((h : Bool) (before : Before) → at.Sets (now (s .entry)) (now (s .exit)) r h (layBefore before) (refuses (linkedState (plans.connectingBy a (sessionIn (now (s .entry)) .st)) wifi.WifiState.Down) h before error.DriverError.InvalidArg)) ⌝ }
 {
     connecting(s, a);
     put_wifi(s, WifiState::Down);
@@ -54,7 +55,7 @@ fn lay_key(s: &mut [u8], undo: &mut [u8], buf: &mut [u8], first: &[u8], second: 
     requires { ⌜ isSession (now s) ≡ true ⌝ }
     requires { ⌜ Kept (now undo) ⌝ }
     requires { ⌜ length (now buf) ≡ 2048 ⌝ }
-    ensures { λ r. ⌜ ((j : job.Job) (h : Bool) (before : Before) (c₀ : Bytes) → now (buf .entry) ≡ laidBefore before c₀ → at.Acts (argsOf j (now (first .entry)) (now (second .entry))) (now (undo .entry)) (now (undo .exit)) (now (s .entry)) (now (s .exit)) c₀ (now (buf .entry)) (now (buf .exit)) r h (at.keyLaid (sessionIn (now (s .entry)) .st) h before)) ⌝ }
+    ensures { λ r. ⌜ ((j : job.Job) (h : Bool) (before : Before) (c₀ : Bytes) → now (buf .entry) ≡ laidBefore before c₀ → at.Acts (argsOf j (now (first .entry)) (now (second .entry))) (now (undo .entry)) (now (undo .exit)) (now (s .entry)) (now (s .exit)) c₀ (now (buf .entry)) (now (buf .exit)) r h (plans.keyLaid (sessionIn (now (s .entry)) .st) h before)) ⌝ }
 {
     lay_payload(undo, buf, Request::Key, first, second);
     pause_at(PauseKind::BeforeKey, 0)
@@ -105,7 +106,7 @@ pub fn act(
     requires { ⌜ isSession (now s) ≡ true ⌝ }
     requires { ⌜ Kept (now undo) ⌝ }
     requires { ⌜ length (now buf) ≡ 2048 ⌝ }
-    ensures { λ r. ⌜ ((h : Bool) (before : Before) (c₀ : Bytes) → now (buf .entry) ≡ laidBefore before c₀ → at.Acts (argsOf j (now (first .entry)) (now (second .entry))) (now (undo .entry)) (now (undo .exit)) (now (s .entry)) (now (s .exit)) c₀ (now (buf .entry)) (now (buf .exit)) r h (at.planned f j l (sessionIn (now (s .entry)) .st) h before)) ⌝ }
+    ensures { λ r. ⌜ ((h : Bool) (before : Before) (c₀ : Bytes) → now (buf .entry) ≡ laidBefore before c₀ → at.Acts (argsOf j (now (first .entry)) (now (second .entry))) (now (undo .entry)) (now (undo .exit)) (now (s .entry)) (now (s .exit)) c₀ (now (buf .entry)) (now (buf .exit)) r h (plans.planned f j l (sessionIn (now (s .entry)) .st) h before)) ⌝ }
 {
     let a = j.auth;
     let given = j.ending;

@@ -2,7 +2,6 @@
 use crate::now::CallNow;
 use crate::now::exchange_at;
 use crate::now::refuse;
-use crate::plan::BeginKind;
 use control::Job;
 use control::Lens;
 use control::Stage;
@@ -11,6 +10,7 @@ use laying::lay_whole;
 use places::read::sdpcm_at;
 use places::write::put_auth;
 use places::write::put_wifi;
+use plans::BeginKind;
 use replying::IoctlNow;
 use replying::IoctlNowKind;
 use replying::ioctl_start;
@@ -43,7 +43,33 @@ ghost use Rattle.places.specs.Places.{Holds};
 ghost use Rattle.laying.specs.Laying.{LaidKept};
 ghost use Rattle.undo.specs.Undo.{Kept};
 ghost use Rattle.replying.specs.Replying as reply;
+ghost use Rattle.plans.specs.Plans as plans;
 ghost use Rattle.exchanging.specs.Exchanging as at;
+
+// The length of a payload that no byte argument changes.
+fn fixed_len(g: Stage) -> u16
+    ensures { λ n. ⌜ n ≡ at.fixedLen g ⌝ }
+{
+    match g {
+        Stage::Country | Stage::RxFactor => 20,
+        Stage::AntDiv
+        | Stage::Wsec
+        | Stage::Infra
+        | Stage::Auth
+        | Stage::WpaAuth
+        | Stage::Disassoc => 4,
+        Stage::Txglom | Stage::Mpdu => 15,
+        Stage::Apsta => 10,
+        Stage::BaWsize | Stage::JoinBaWsize => 19,
+        Stage::EventMessages => 41,
+        Stage::SupWpa => 23,
+        Stage::Eapver => 31,
+        Stage::SupWpaTmo => 27,
+        Stage::Mfp => 8,
+        Stage::Escan => 82,
+        _ => 0,
+    }
+}
 
 // How long a stage's payload is.
 pub fn stage_len(j: Job, g: Stage, l: Lens) -> u16
@@ -51,30 +77,11 @@ pub fn stage_len(j: Job, g: Stage, l: Lens) -> u16
 {
     let single = j.request;
     match g {
-        Stage::Country => 20,
-        Stage::AntDiv => 4,
-        Stage::Txglom => 15,
-        Stage::Apsta => 10,
-        Stage::BaWsize => 19,
-        Stage::Mpdu => 15,
-        Stage::RxFactor => 20,
-        Stage::EventMessages => 41,
-        Stage::InitUp => 0,
-        Stage::JoinBaWsize => 19,
-        Stage::Wsec => 4,
-        Stage::SupWpa => 23,
-        Stage::Eapver => 31,
-        Stage::SupWpaTmo => 27,
         Stage::Key => request_len(Request::Key, l),
         Stage::Sae => request_len(Request::SaePassword, l),
-        Stage::Infra => 4,
-        Stage::Auth => 4,
-        Stage::Mfp => 8,
-        Stage::WpaAuth => 4,
         Stage::Ssid => request_len(Request::Ssid, l),
-        Stage::Escan => 82,
-        Stage::Disassoc => 4,
         Stage::Single => request_len(single, l),
+        _ => fixed_len(g),
     }
 }
 
@@ -141,7 +148,7 @@ fn lay_by(
 )
     requires { ⌜ Kept (now undo) ⌝ }
     requires { ⌜ length (now buf) ≡ 2048 ⌝ }
-    ensures laid { λ _. ⌜ ((j : job.Job) → now (buf .exit) ≡ laidRequest (argsOf j (now (first .entry)) (now (second .entry))) (at.putBy begin r id) (now (buf .entry))) ⌝ }
+    ensures laid { λ _. ⌜ ((j : job.Job) → now (buf .exit) ≡ laidRequest (argsOf j (now (first .entry)) (now (second .entry))) (plans.putBy begin r id) (now (buf .entry))) ⌝ }
     ensures kept { λ _. ⌜ LaidKept (now (undo .entry)) (now (undo .exit)) (now (buf .entry)) (now (buf .exit)) ⌝ }
 {
     match begin {
@@ -166,7 +173,7 @@ fn begin_put(
     requires { ⌜ isSession (now s) ≡ true ⌝ }
     requires { ⌜ Kept (now undo) ⌝ }
     requires { ⌜ length (now buf) ≡ 2048 ⌝ }
-    ensures { λ r. ⌜ ((h : Bool) (before : Before) (c₀ : Bytes) → now (buf .entry) ≡ laidBefore before c₀ → at.Acts (argsOf j (now (first .entry)) (now (second .entry))) (now (undo .entry)) (now (undo .exit)) (now (s .entry)) (now (s .exit)) c₀ (now (buf .entry)) (now (buf .exit)) r h (at.begunBy begin j l g (sessionIn (now (s .entry)) .st) h before)) ⌝ }
+    ensures { λ r. ⌜ ((h : Bool) (before : Before) (c₀ : Bytes) → now (buf .entry) ≡ laidBefore before c₀ → at.Acts (argsOf j (now (first .entry)) (now (second .entry))) (now (undo .entry)) (now (undo .exit)) (now (s .entry)) (now (s .exit)) c₀ (now (buf .entry)) (now (buf .exit)) r h (plans.begunBy begin j l g (sessionIn (now (s .entry)) .st) h before)) ⌝ }
 {
     let r = request_at(j, g);
     let id = new_id(s);
@@ -176,7 +183,7 @@ fn begin_put(
 
 pub fn connecting(s: &mut [u8], a: WifiAuth)
     requires { ⌜ isSession (now s) ≡ true ⌝ }
-    ensures { λ _. ⌜ Holds (now (s .exit)) (withState (now (s .entry)) (at.connectingBy a (sessionIn (now (s .entry)) .st))) ⌝ }
+    ensures { λ _. ⌜ Holds (now (s .exit)) (withState (now (s .entry)) (plans.connectingBy a (sessionIn (now (s .entry)) .st))) ⌝ }
 {
     put_auth(s, a);
     put_wifi(s, WifiState::Connecting);
@@ -185,7 +192,7 @@ pub fn connecting(s: &mut [u8], a: WifiAuth)
 // Join's last request begins with the link's state.
 fn connect_by(begin: BeginKind, s: &mut [u8], a: WifiAuth)
     requires { ⌜ isSession (now s) ≡ true ⌝ }
-    ensures { λ _. ⌜ Holds (now (s .exit)) (withState (now (s .entry)) (at.stateBy begin a (sessionIn (now (s .entry)) .st))) ⌝ }
+    ensures { λ _. ⌜ Holds (now (s .exit)) (withState (now (s .entry)) (plans.stateBy begin a (sessionIn (now (s .entry)) .st))) ⌝ }
 {
     match begin {
         BeginKind::Whole => {}
@@ -208,7 +215,7 @@ pub fn begin(
     requires { ⌜ isSession (now s) ≡ true ⌝ }
     requires { ⌜ Kept (now undo) ⌝ }
     requires { ⌜ length (now buf) ≡ 2048 ⌝ }
-    ensures { λ r. ⌜ ((h : Bool) (before : Before) (c₀ : Bytes) → now (buf .entry) ≡ laidBefore before c₀ → at.Acts (argsOf j (now (first .entry)) (now (second .entry))) (now (undo .entry)) (now (undo .exit)) (now (s .entry)) (now (s .exit)) c₀ (now (buf .entry)) (now (buf .exit)) r h (at.beginBy begin j l g (sessionIn (now (s .entry)) .st) h before)) ⌝ }
+    ensures { λ r. ⌜ ((h : Bool) (before : Before) (c₀ : Bytes) → now (buf .entry) ≡ laidBefore before c₀ → at.Acts (argsOf j (now (first .entry)) (now (second .entry))) (now (undo .entry)) (now (undo .exit)) (now (s .entry)) (now (s .exit)) c₀ (now (buf .entry)) (now (buf .exit)) r h (plans.beginBy begin j l g (sessionIn (now (s .entry)) .st) h before)) ⌝ }
 {
     let a = j.auth;
     connect_by(begin, s, a);

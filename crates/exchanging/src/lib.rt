@@ -2,4 +2,3 @@
 pub mod act;
 pub mod begin;
 pub mod now;
-pub mod plan;

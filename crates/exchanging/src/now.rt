@@ -1,6 +1,7 @@
 // Where a call stands: at an operation of a stage's exchange, at a wait, at the clock or the tick, or at its end.
 use control::Ending;
 use control::Stage;
+use plans::PauseKind;
 use receive::polled::PollAt;
 use receive::polled::PollKind;
 use replying::IoctlAt;
@@ -10,16 +11,8 @@ ghost use mathlib.Core.Path.{_≡_};
 ghost use Rattle.control.specs.declared.CallNext as next;
 ghost use Rattle.control.specs.declared.CallPoint as point;
 ghost use Rattle.replying.specs.Replying as reply;
+ghost use Rattle.plans.specs.Plans as plans;
 ghost use Rattle.exchanging.specs.Exchanging as at;
-
-pub enum PauseKind {
-    AfterCountry,
-    Settle,
-    AfterEventMessages,
-    AfterUp,
-    BeforeKey,
-    BeforeSae,
-}
 
 pub enum CallKind {
     Exchange,
@@ -99,7 +92,7 @@ pub fn exchange_at(g: Stage, p: IoctlAt) -> CallNow
 }
 
 pub fn pause_at(pause: PauseKind, ns: u32) -> CallNow
-    ensures { λ r. ⌜ at.nextOf r ≡ next.CallNext.Ask (point.CallPoint.Pause (at.pauseBy pause ns)) ⌝ }
+    ensures { λ r. ⌜ at.nextOf r ≡ next.CallNext.Ask (point.CallPoint.Pause (plans.pauseBy pause ns)) ⌝ }
 {
     now_at(CallKind::Pause, pause, ns, Ending::Done, DriverError::Io)
 }

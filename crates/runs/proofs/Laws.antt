@@ -1,14 +1,13 @@
 -- A call's beginning is its tree, and what its run left is its end.
 use Prim.Native.Nat.{ℕ, _<_, _≤_}
-use mathlib.Core.Path.{_≡_, refl, sym, ap, _∙_}
-use mathlib.Core.Bool.{Bool, true, false}
+use mathlib.Core.Path.{_≡_, refl, ap, _∙_}
+use mathlib.Core.Bool.{true, false}
 use mathlib.Core.List.{List, []}
 use native.Mathlib.Omega.{arith}
 use lib.ListN.{length, drop}
 use borrow.Author.Tests.{lt-leb}
 use Rattle.wlan.specs.declared.DriverError.{DriverError}
 use Rattle.wlan.specs.declared.Outcome.{Outcome}
-use Rattle.wlan.specs.declared.Refusal.{Refusal}
 use Rattle.wlan.specs.declared.State.{State}
 use Rattle.wlan.specs.declared.Success.{Success}
 use Rattle.wlan.specs.Outcome.{errorValue}
@@ -33,7 +32,7 @@ use Rattle.control.specs.Meaning.{Args, lensOf, callTree, callShown, laidAll, l
 use Rattle.jobs.specs.Jobs.{noJob, frameJob}
 use Rattle.jobs.proofs.Starts.{poll-is, send-is, refused-is}
 use Rattle.send_call.specs.SendCall.{argsIn, startIn}
-use Rattle.undo.specs.Undo.{Kept, backSession, backBuf}
+use Rattle.undo.specs.Undo.{Kept}
 use Rattle.turning.proofs.Laws.{stopped, returned}
 use Rattle.polls.proofs.Laws.{front-kept}
 use Rattle.starting.specs.declared.Start.{Start}
@@ -49,10 +48,6 @@ use Rattle.runs.specs.Runs as to
 use Rattle.runs.proofs.Called.{called-from}
 
 -- ---- a run's end
-
-pub put-back : {session₀ session log : List ℕ} {buf₀ buf b : Bytes} {d : List ℕ} {e : End} {r : RunEnd} → isSession session₀ ≡ true → session ≡ session₀ → buf ≡ buf₀ → r .back ≡ true → turning.Ends (turning.worldIn session₀ buf₀) e r log d b
-    → (isSession session ≡ true) × (turning.worldIn session buf ≡ world (e .st) (e .buf) (e .list))
-put-back k es eb hb h = rw (es, eb) (k, sym (rw hb at (h .left)))
 
 pub left : {e : End} {w : World} {log d d′ : List ℕ} {g g′ : Bytes} {r : RunEnd} → turning.Ends w e r log d′ g′ → (isSession d ≡ true) × (turning.worldIn d g ≡ world (e .st) (e .buf) (e .list)) → to.Left e log d g r
 left h s = record { tells = h .tells; len = h .len; log = h .log; output = h .output; held = s .0; stands = s .1 }

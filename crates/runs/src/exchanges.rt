@@ -1,5 +1,4 @@
 // The calls that are exchanges.
-use crate::settle;
 use exchange_call::exchange_run;
 use jobs::PlainCall;
 use jobs::jobs::at_most;
@@ -11,6 +10,7 @@ use starting::StartKind;
 use starting::bytes::join_start;
 use starting::bytes::variable_start;
 use starting::plain::plain_start;
+use turning::settle;
 use undo::keep_front;
 ghost use mathlib.Core.Path.{_≡_};
 ghost use mathlib.Core.Bool.{true, false};

@@ -1,5 +1,4 @@
 // `send_data`.
-use crate::settle;
 use requests::numbers::is_interface;
 use run_end::RunEnd;
 use run_end::done_end;
@@ -7,6 +6,7 @@ use run_end::error_end;
 use send_call::send_run;
 use send_call::straight::goes_straight;
 use send_call::straight::send_straight;
+use turning::settle;
 use undo::keep_front;
 use wlan::DriverError;
 ghost use mathlib.Core.Path.{_≡_};

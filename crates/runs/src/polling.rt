@@ -1,7 +1,7 @@
 // `poll`.
-use crate::settle;
 use poll_call::poll_run;
 use run_end::RunEnd;
+use turning::settle;
 use undo::keep_front;
 ghost use mathlib.Core.Path.{_≡_};
 ghost use mathlib.Core.Bool.{true};

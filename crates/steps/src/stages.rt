@@ -1,13 +1,12 @@
 // Each stage's request.
 ghost use mathlib.Core.Path.{_≡_};
-ghost use Rattle.requests.specs.Number.{larger};
 ghost use Rattle.control.specs.Stages as to;
 use control::Job;
 use control::Lens;
 use control::Stage;
 use requests::IovarName;
 use requests::Request;
-use requests::numbers::name_len;
+use requests::numbers::length_of;
 use requests::security::auth_type;
 use requests::security::mfp;
 use requests::security::supplicant;
@@ -57,40 +56,11 @@ pub fn request_at(j: Job, s: Stage) -> Request
     }
 }
 
-fn larger(n: u16, m: u16) -> u16
-    ensures { λ r. ⌜ r ≡ larger n m ⌝ }
-{
-    if n < m { m } else { n }
-}
-
 // The payload's length, as long as it is below 65,536.
 pub fn request_len(r: Request, l: Lens) -> u16
     ensures { λ n. ⌜ n ≡ to.requestLen r l ⌝ }
 {
-    let first = l.first as u32;
-    let second = l.second as u32;
-    match r {
-        Request::Country(_) => 20,
-        Request::SetWord {
-            cmd: _,
-            value: _,
-            interface: _,
-        } => 4,
-        Request::GetWord {
-            cmd: _,
-            interface: _,
-        } => 4,
-        Request::Iovar(v, _) => ((name_len(v) + 5) % 65536) as u16,
-        Request::IovarPair(v, _, _) => ((name_len(v) + 9) % 65536) as u16,
-        Request::EventMessages => 41,
-        Request::Escan => 82,
-        Request::CurrentAddress => 20,
-        Request::Up => 0,
-        Request::Ssid => ((4 + larger(l.first, 32) as u32) % 65536) as u16,
-        Request::Key => ((4 + larger(l.second, 64) as u32) % 65536) as u16,
-        Request::SaePassword => ((15 + larger(l.second, 128) as u32) % 65536) as u16,
-        Request::Variable(_) => ((first + 1 + second) % 65536) as u16,
-    }
+    (length_of(r, l.first as usize, l.second as usize) % 65536) as u16
 }
 
 // Is an error of this request ignored?
@@ -98,30 +68,13 @@ pub fn is_tried(s: Stage) -> bool
     ensures { λ r. ⌜ r ≡ to.isTried s ⌝ }
 {
     match s {
-        Stage::Country => false,
-        Stage::AntDiv => false,
-        Stage::Txglom => true,
-        Stage::Apsta => true,
-        Stage::BaWsize => true,
-        Stage::Mpdu => true,
-        Stage::RxFactor => true,
-        Stage::EventMessages => false,
-        Stage::InitUp => false,
-        Stage::JoinBaWsize => false,
-        Stage::Wsec => false,
-        Stage::SupWpa => false,
-        Stage::Eapver => false,
-        Stage::SupWpaTmo => true,
-        Stage::Key => false,
-        Stage::Sae => false,
-        Stage::Infra => false,
-        Stage::Auth => false,
-        Stage::Mfp => false,
-        Stage::WpaAuth => false,
-        Stage::Ssid => false,
-        Stage::Escan => false,
-        Stage::Disassoc => false,
-        Stage::Single => false,
+        Stage::Txglom
+        | Stage::Apsta
+        | Stage::BaWsize
+        | Stage::Mpdu
+        | Stage::RxFactor
+        | Stage::SupWpaTmo => true,
+        _ => false,
     }
 }
 
@@ -130,29 +83,7 @@ pub fn is_last(s: Stage) -> bool
     ensures { λ r. ⌜ r ≡ to.isLast s ⌝ }
 {
     match s {
-        Stage::Country => false,
-        Stage::AntDiv => false,
-        Stage::Txglom => false,
-        Stage::Apsta => false,
-        Stage::BaWsize => false,
-        Stage::Mpdu => false,
-        Stage::RxFactor => false,
-        Stage::EventMessages => false,
-        Stage::InitUp => false,
-        Stage::JoinBaWsize => false,
-        Stage::Wsec => false,
-        Stage::SupWpa => false,
-        Stage::Eapver => false,
-        Stage::SupWpaTmo => false,
-        Stage::Key => false,
-        Stage::Sae => false,
-        Stage::Infra => false,
-        Stage::Auth => false,
-        Stage::Mfp => false,
-        Stage::WpaAuth => false,
         Stage::Ssid => true,
-        Stage::Escan => false,
-        Stage::Disassoc => false,
-        Stage::Single => false,
+        _ => false,
     }
 }

@@ -21,6 +21,7 @@ use Rattle.definition.specs.Prog.{World, world, Prog, stop, ret}
 use Rattle.definition.specs.Poll.{Result}
 use Rattle.definition.specs.Run.{End, finished, rolledBack}
 use Rattle.device.specs.Meaning.{opIn, asking, told, landing, InRange}
+use Rattle.session_bytes.specs.Session.{isSession}
 use Rattle.going.specs.Onward.{finish, go}
 use Rattle.going.proofs.Going.{go-ret, go-stop}
 use Rattle.asking.specs.declared.Back.{Back}
@@ -62,6 +63,12 @@ not-back Back.LogFull h = absurd (let z : _≡_ {A = ℕ} 0 1 = cc in omega arit
 
 pub still-kept : {u : List ℕ} {b c : Bytes} → Kept u → c ≡ b → KeptOn u u b c
 still-kept k e = rw e (record { kept = k; session = λ s. refl; buf = refl; records = refl })
+
+-- ---- what is left
+
+pub put-back : {session₀ session log : List ℕ} {buf₀ buf b : Bytes} {d : List ℕ} {e : End} {r : RunEnd} → isSession session₀ ≡ true → session ≡ session₀ → buf ≡ buf₀ → r .back ≡ true → to.Ends (to.worldIn session₀ buf₀) e r log d b
+    → (isSession session ≡ true) × (to.worldIn session buf ≡ world (e .st) (e .buf) (e .list))
+put-back k es eb hb h = rw (es, eb) (k, sym (rw hb at (h .left)))
 
 -- ---- after an operation that was asked
 

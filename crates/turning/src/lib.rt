@@ -12,17 +12,19 @@ use receive::polled::PollKind;
 use run_end::EndKind;
 use run_end::RunEnd;
 use run_end::no_failure;
+use undo::put_back;
 ghost use mathlib.Core.Path.{_≡_};
 ghost use mathlib.Core.Bool.{true, false};
 ghost use mathlib.Core.List.{List};
 ghost use Prim.Native.Nat.{ℕ};
 ghost use lib.ListN.{length};
 ghost use Rattle.definition.specs.Bus.{Bytes};
-ghost use Rattle.definition.specs.Prog.{World};
+ghost use Rattle.definition.specs.Prog.{World, world};
 ghost use Rattle.definition.specs.Run.{End};
 ghost use Rattle.device.specs.Poll.{pollOp};
 ghost use Rattle.receive.specs.Receive.{pointOf};
-ghost use Rattle.undo.specs.Undo.{Kept};
+ghost use Rattle.session_bytes.specs.Session.{isSession};
+ghost use Rattle.undo.specs.Undo.{Kept, backSession, backBuf};
 ghost use Rattle.asking.specs.Asking.{Asks, KeptOn, followed};
 ghost use Rattle.turning.specs.Turning as to;
 
@@ -87,5 +89,17 @@ pub fn back_end(a: Asked) -> RunEnd
         value: 0,
         failure: no_failure(),
         len: a.len,
+    }
+}
+
+// The run is over: what it changed stays, or is put back. session₀ and buf₀: as they were before the call.
+pub fn settle(r: RunEnd, session: &mut [u8], undo: &[u8], buf: &mut [u8])
+    requires { ⌜ Kept (now undo) ⌝ }
+    requires { ⌜ isSession (now session) ≡ true ⌝ }
+    requires { ⌜ length (now buf) ≡ 2048 ⌝ }
+    ensures { λ _. ⌜ ((session₀ log : List ℕ) (buf₀ : Bytes) (e : End) → isSession session₀ ≡ true → (r .back ≡ true → backSession (now (undo .entry)) (now (session .entry)) ≡ session₀) → (r .back ≡ true → backBuf (now (undo .entry)) (now (buf .entry)) ≡ buf₀) → to.Ends (to.worldIn session₀ buf₀) e r log (now (session .entry)) (now (buf .entry)) → (isSession (now (session .exit)) ≡ true) × (to.worldIn (now (session .exit)) (now (buf .exit)) ≡ world (e .st) (e .buf) (e .list))) ⌝ }
+{
+    if r.back {
+        put_back(undo, session, buf);
     }
 }

@@ -18,22 +18,44 @@ ghost use mathlib.Core.List.{[], _∷_};
 ghost use Rattle.slices.specs.Over.{over};
 ghost use Rattle.definition.specs.Request as to;
 ghost use Rattle.requests.specs.Request.{nameOf, requestOf};
+ghost use Rattle.work_buffer.specs.Names.{allNames, nameAt};
 
+// Where a variable's name begins among all names.
+fn name_at(v: IovarName) -> usize
+    ensures { λ n. ⌜ n ≡ nameAt v ⌝ }
+{
+    match v {
+        IovarName::BusTxglom => 0,
+        IovarName::Apsta => 10,
+        IovarName::AmpduBaWsize => 15,
+        IovarName::AmpduMpdu => 29,
+        IovarName::AmpduRxFactor => 39,
+        IovarName::SupWpa => 54,
+        IovarName::SupWpa2Eapver => 54,
+        IovarName::SupWpaTmo => 76,
+        IovarName::Mfp => 94,
+        IovarName::Gpioout => 97,
+    }
+}
+
+fn put_name_among(part: &mut [u8], names: &[u8], v: IovarName)
+    requires { ⌜ now names ≡ allNames ⌝ }
+    ensures { λ _. ⌜ now (part .exit) ≡ over (now (part .entry)) 0 (to.named (to.ascii (nameOf v)) []) ⌝ }
+{
+    let from = name_at(v);
+    let end = from + name_len(v);
+    put_name(part, &names[from..end]);
+}
+
+// One string for all names: each further one would be a copy of the call.
 fn put_iovar_name(part: &mut [u8], v: IovarName)
     ensures { λ _. ⌜ now (part .exit) ≡ over (now (part .entry)) 0 (to.named (to.ascii (nameOf v)) []) ⌝ }
 {
-    match v {
-        IovarName::BusTxglom => put_name(part, b"bus:txglom"),
-        IovarName::Apsta => put_name(part, b"apsta"),
-        IovarName::AmpduBaWsize => put_name(part, b"ampdu_ba_wsize"),
-        IovarName::AmpduMpdu => put_name(part, b"ampdu_mpdu"),
-        IovarName::AmpduRxFactor => put_name(part, b"ampdu_rx_factor"),
-        IovarName::SupWpa => put_name(part, b"bsscfg:sup_wpa"),
-        IovarName::SupWpa2Eapver => put_name(part, b"bsscfg:sup_wpa2_eapver"),
-        IovarName::SupWpaTmo => put_name(part, b"bsscfg:sup_wpa_tmo"),
-        IovarName::Mfp => put_name(part, b"mfp"),
-        IovarName::Gpioout => put_name(part, b"gpioout"),
-    }
+    put_name_among(
+        part,
+        b"bus:txglomapstaampdu_ba_wsizeampdu_mpduampdu_rx_factorbsscfg:sup_wpa2_eapverbsscfg:sup_wpa_tmomfpgpioout",
+        v,
+    );
 }
 
 pub fn put_iovar(part: &mut [u8], v: IovarName, x: u32)

@@ -19,8 +19,8 @@ use Rattle.exchange_call.proofs.clock_turn.Lts as lts
 use Rattle.asking.proofs.ask_clock.Reads as ask-clock-reads
 use Rattle.exchange_call.proofs.onward.Reads as onward-reads
 use Rattle.exchange_call.proofs.over.Reads as over-reads
-use Rattle.exchanging.proofs.plan.clock_plan.Reads as clock-plan-reads
-use Rattle.exchanging.proofs.plan.fault_plan.Reads as fault-plan-reads
+use Rattle.plans.proofs.clock_plan.Reads as clock-plan-reads
+use Rattle.plans.proofs.fault_plan.Reads as fault-plan-reads
 use Rattle.turning.proofs.back_end.Reads as back-end-reads
 use Rattle.turning.proofs.is_back.Reads as is-back-reads
 

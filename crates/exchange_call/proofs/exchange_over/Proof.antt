@@ -1,7 +1,7 @@
 use mathlib.Core.Path.{sym, _∙_}
 use mathlib.Core.Bool.{true≢false}
 use Rattle.effects.specs.Args.{argsOf}
-use Rattle.exchanging.proofs.Laws.{same-kept}
+use Rattle.plans.proofs.Laws.{same-kept}
 use Rattle.exchange_call.proofs.Laws.{stood-back, stood-on, is-over, planned-on, on-turns, over-turns}
 use borrow.Author.Needs.{needs}
 use Rattle.exchange_call.proofs.exchange_over.Statement.{statement}
@@ -10,7 +10,7 @@ use Rattle.exchange_call.proofs.exchange_over.Reads as reads
 use Rattle.exchange_call.proofs.exchange_over.Lts as lts
 use Rattle.exchange_call.proofs.onward.Reads as onward-reads
 use Rattle.exchange_call.proofs.over.Reads as over-reads
-use Rattle.exchanging.proofs.plan.exchange_plan.Reads as exchange-plan-reads
+use Rattle.plans.proofs.exchange_plan.Reads as exchange-plan-reads
 use Rattle.turning.proofs.back_end.Reads as back-end-reads
 use Rattle.turning.proofs.is_back.Reads as is-back-reads
 

@@ -6,7 +6,7 @@ use Rattle.control.specs.declared.CallPoint.{CallPoint}
 use Rattle.control.specs.Begin.{callAnswer}
 use Rattle.control.specs.Meaning.{lensOf}
 use Rattle.control.specs.Steps.{callOp}
-use Rattle.exchanging.specs.Exchanging.{pauseBy}
+use Rattle.plans.specs.Plans.{pauseBy}
 use Rattle.turning.proofs.Laws.{asked-grew, not-back}
 use Rattle.exchange_call.proofs.Laws.{back-turns, any-turns}
 use borrow.Author.Needs.{needs}
@@ -18,7 +18,7 @@ use Rattle.asking.proofs.ask_wait.Reads as ask-wait-reads
 use Rattle.exchange_call.proofs.onward.Reads as onward-reads
 use Rattle.exchange_call.proofs.over.Reads as over-reads
 use Rattle.exchange_call.proofs.pause_ns.Reads as pause-ns-reads
-use Rattle.exchanging.proofs.plan.resume_of.Reads as resume-of-reads
+use Rattle.plans.proofs.resume_of.Reads as resume-of-reads
 use Rattle.turning.proofs.back_end.Reads as back-end-reads
 use Rattle.turning.proofs.is_back.Reads as is-back-reads
 

@@ -1,5 +1,5 @@
 use mathlib.Core.Path.{refl}
-use Rattle.exchanging.specs.Exchanging.{planBy}
+use Rattle.plans.specs.Plans.{planBy}
 use Rattle.exchanging.proofs.Laws.{still, set-act, clear-act}
 use borrow.Author.Needs.{needs}
 use Rattle.exchanging.proofs.act.act.Statement.{statement}

@@ -1,4 +1,4 @@
-use Rattle.exchanging.specs.Exchanging.{pauseBy}
+use Rattle.plans.specs.Plans.{pauseBy}
 use Rattle.exchanging.proofs.Laws.{key-act}
 use borrow.Author.Needs.{needs}
 use Rattle.exchanging.proofs.act.lay_key.Statement.{statement}

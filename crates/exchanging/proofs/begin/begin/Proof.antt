@@ -1,5 +1,5 @@
 use Rattle.wlan.specs.declared.State.{State}
-use Rattle.exchanging.specs.Exchanging.{begunBy}
+use Rattle.plans.specs.Plans.{begunBy}
 use Rattle.exchanging.proofs.Laws.{moved}
 use borrow.Author.Needs.{needs}
 use Rattle.exchanging.proofs.begin.begin.Statement.{statement}

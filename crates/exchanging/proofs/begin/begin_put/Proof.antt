@@ -3,7 +3,7 @@ use native.Mathlib.Omega.{arith}
 use Rattle.definition.specs.Bus.{Bytes}
 use Rattle.control.specs.Meaning.{laidRequest}
 use Rattle.effects.specs.Args.{argsOf}
-use Rattle.exchanging.specs.Exchanging.{putBy}
+use Rattle.plans.specs.Plans.{putBy}
 use Rattle.exchanging.proofs.Laws.{laid-first}
 use borrow.Author.Needs.{needs}
 use Rattle.exchanging.proofs.begin.begin_put.Statement.{statement}

@@ -1,5 +1,5 @@
 use mathlib.Core.Path.{refl}
-use Rattle.exchanging.specs.Exchanging.{stateBy}
+use Rattle.plans.specs.Plans.{stateBy}
 use borrow.Author.Needs.{needs}
 use Rattle.exchanging.proofs.begin.connect_by.Statement.{statement}
 use Rattle.exchanging.proofs.begin.connect_by.Tie as tie

@@ -1,4 +1,4 @@
-use Rattle.exchanging.specs.Exchanging.{putBy}
+use Rattle.plans.specs.Plans.{putBy}
 use borrow.Author.Needs.{needs}
 use Rattle.exchanging.proofs.begin.lay_by.Statement.{statement}
 use Rattle.exchanging.proofs.begin.lay_by.Tie as tie

@@ -1,244 +1,110 @@
+use Prim.Native.Nat.{ℕ}
+use mathlib.Core.Path.{_≡_, refl}
+use mathlib.Core.List.{List, [], _∷_}
+use types.Run.{OneOf, miss}
+use denote.Enum.Declared.{tagOf}
+use Rattle.control.specs.declared.Stage.{Stage}
+use Rattle.control.proofs.Stage.{the-type}
+use mathlib.Core.Path.{_∙_}
+use Rattle.control.specs.declared.Job.{Job}
+use Rattle.control.specs.declared.Lens.{Lens}
 use Rattle.control.specs.Stages.{requestAt, requestLen}
+use Rattle.exchanging.specs.Exchanging.{fixedLen}
 use borrow.Author.Needs.{needs}
 use Rattle.exchanging.proofs.begin.stage_len.Statement.{statement}
 use Rattle.exchanging.proofs.begin.stage_len.Tie as tie
-use Rattle.exchanging.proofs.begin.stage_len.Reads as reads
-use Rattle.exchanging.proofs.begin.stage_len.Lts as lts
-use Rattle.steps.proofs.stages.request_len.Reads as request-len-reads
+
+abbrev keys-fixed : List ℕ
+keys-fixed = 0 ∷ 1 ∷ 2 ∷ 3 ∷ 4 ∷ 5 ∷ 6 ∷ 7 ∷ 8 ∷ 9 ∷ 10 ∷ 11 ∷ 12 ∷ 13 ∷ 16 ∷ 17 ∷ 18 ∷ 19 ∷ 21 ∷ 22 ∷ []
+
+fixed : (j : Job) (l : Lens) (s : Stage) → OneOf keys-fixed (tagOf the-type s) → fixedLen s ≡ requestLen (requestAt j s) l
+unfolding fixedLen requestAt requestLen
+fixed j l Stage.Country h = refl
+fixed j l Stage.AntDiv h = refl
+fixed j l Stage.Txglom h = refl
+fixed j l Stage.Apsta h = refl
+fixed j l Stage.BaWsize h = refl
+fixed j l Stage.Mpdu h = refl
+fixed j l Stage.RxFactor h = refl
+fixed j l Stage.EventMessages h = refl
+fixed j l Stage.InitUp h = refl
+fixed j l Stage.JoinBaWsize h = refl
+fixed j l Stage.Wsec h = refl
+fixed j l Stage.SupWpa h = refl
+fixed j l Stage.Eapver h = refl
+fixed j l Stage.SupWpaTmo h = refl
+fixed j l Stage.Key h = absurd (miss keys-fixed 14 tt h)
+fixed j l Stage.Sae h = absurd (miss keys-fixed 15 tt h)
+fixed j l Stage.Infra h = refl
+fixed j l Stage.Auth h = refl
+fixed j l Stage.Mfp h = refl
+fixed j l Stage.WpaAuth h = refl
+fixed j l Stage.Ssid h = absurd (miss keys-fixed 20 tt h)
+fixed j l Stage.Escan h = refl
+fixed j l Stage.Disassoc h = refl
+fixed j l Stage.Single h = absurd (miss keys-fixed 23 tt h)
 
 enum-told : tie.Need-enum-told
 enum-told c = search needs
 
-enum-told-2 : tie.Need-enum-told-2
-enum-told-2 c = search needs
-
-enum-told-3 : tie.Need-enum-told-3
-enum-told-3 c = search needs
-
-enum-told-4 : tie.Need-enum-told-4
-enum-told-4 c = search needs
-
-enum-told-5 : tie.Need-enum-told-5
-enum-told-5 c = search needs
-
-enum-told-6 : tie.Need-enum-told-6
-enum-told-6 c = search needs
-
-enum-told-7 : tie.Need-enum-told-7
-enum-told-7 c = search needs
-
-enum-told-8 : tie.Need-enum-told-8
-enum-told-8 c = search needs
-
-enum-told-9 : tie.Need-enum-told-9
-enum-told-9 c = search needs
-
-enum-told-10 : tie.Need-enum-told-10
-enum-told-10 c = search needs
-
-enum-told-11 : tie.Need-enum-told-11
-enum-told-11 c = search needs
-
-enum-told-12 : tie.Need-enum-told-12
-enum-told-12 c = search needs
-
-enum-told-13 : tie.Need-enum-told-13
-enum-told-13 c = search needs
-
-enum-told-14 : tie.Need-enum-told-14
-enum-told-14 c = search needs
-
-enum-told-15 : tie.Need-enum-told-15
-enum-told-15 c = search needs
-
 request-len-requires : tie.Need-request-len-requires
 request-len-requires c κs = search needs
 
-enum-told-16 : tie.Need-enum-told-16
-enum-told-16 c = search needs
+enum-told-2 : tie.Need-enum-told-2
+enum-told-2 c = search needs
 
 request-len-requires-2 : tie.Need-request-len-requires-2
 request-len-requires-2 c κs = search needs
 
-enum-told-17 : tie.Need-enum-told-17
-enum-told-17 c = search needs
-
-enum-told-18 : tie.Need-enum-told-18
-enum-told-18 c = search needs
-
-enum-told-19 : tie.Need-enum-told-19
-enum-told-19 c = search needs
-
-enum-told-20 : tie.Need-enum-told-20
-enum-told-20 c = search needs
-
-enum-told-21 : tie.Need-enum-told-21
-enum-told-21 c = search needs
+enum-told-3 : tie.Need-enum-told-3
+enum-told-3 c = search needs
 
 request-len-requires-3 : tie.Need-request-len-requires-3
 request-len-requires-3 c κs = search needs
 
-enum-told-22 : tie.Need-enum-told-22
-enum-told-22 c = search needs
-
-enum-told-23 : tie.Need-enum-told-23
-enum-told-23 c = search needs
-
-enum-told-24 : tie.Need-enum-told-24
-enum-told-24 c = search needs
+enum-told-4 : tie.Need-enum-told-4
+enum-told-4 c = search needs
 
 request-len-requires-4 : tie.Need-request-len-requires-4
 request-len-requires-4 c κs = search needs
 
+fixed-len-requires : tie.Need-fixed-len-requires
+fixed-len-requires c κs = search needs
+
 returns : tie.Need-returns
-unfolding requestAt requestLen
-returns c = rw (c .enum-told .given .1)
+unfolding requestAt
+returns c = rw (c .before .enum-told .given .1) (c .request-len .ensures)
 
 returns-2 : tie.Need-returns-2
-unfolding requestAt requestLen
-returns-2 c = rw (c .enum-told2 .given .1)
+unfolding requestAt
+returns-2 c = rw (c .before .enum-told2 .given .1) (c .request-len2 .ensures)
 
 returns-3 : tie.Need-returns-3
-unfolding requestAt requestLen
-returns-3 c = rw (c .enum-told3 .given .1)
+unfolding requestAt
+returns-3 c = rw (c .before .enum-told3 .given .1) (c .request-len3 .ensures)
 
 returns-4 : tie.Need-returns-4
-unfolding requestAt requestLen
-returns-4 c = rw (c .enum-told4 .given .1)
+unfolding requestAt
+returns-4 c = rw (c .before .enum-told4 .given .1) (c .request-len4 .ensures)
 
 returns-5 : tie.Need-returns-5
-unfolding requestAt requestLen
-returns-5 c = rw (c .enum-told5 .given .1)
-
-returns-6 : tie.Need-returns-6
-unfolding requestAt requestLen
-returns-6 c = rw (c .enum-told6 .given .1)
-
-returns-7 : tie.Need-returns-7
-unfolding requestAt requestLen
-returns-7 c = rw (c .enum-told7 .given .1)
-
-returns-8 : tie.Need-returns-8
-unfolding requestAt requestLen
-returns-8 c = rw (c .enum-told8 .given .1)
-
-returns-9 : tie.Need-returns-9
-unfolding requestAt requestLen
-returns-9 c = rw (c .enum-told9 .given .1)
-
-returns-10 : tie.Need-returns-10
-unfolding requestAt requestLen
-returns-10 c = rw (c .enum-told10 .given .1)
-
-returns-11 : tie.Need-returns-11
-unfolding requestAt requestLen
-returns-11 c = rw (c .enum-told11 .given .1)
-
-returns-12 : tie.Need-returns-12
-unfolding requestAt requestLen
-returns-12 c = rw (c .enum-told12 .given .1)
-
-returns-13 : tie.Need-returns-13
-unfolding requestAt requestLen
-returns-13 c = rw (c .enum-told13 .given .1)
-
-returns-14 : tie.Need-returns-14
-unfolding requestAt requestLen
-returns-14 c = rw (c .enum-told14 .given .1)
-
-returns-15 : tie.Need-returns-15
-unfolding requestAt
-returns-15 c = rw (c .before .enum-told15 .given .1) (c .request-len .ensures)
-
-returns-16 : tie.Need-returns-16
-unfolding requestAt
-returns-16 c = rw (c .before .enum-told16 .given .1) (c .request-len2 .ensures)
-
-returns-17 : tie.Need-returns-17
-unfolding requestAt requestLen
-returns-17 c = rw (c .enum-told17 .given .1)
-
-returns-18 : tie.Need-returns-18
-unfolding requestAt requestLen
-returns-18 c = rw (c .enum-told18 .given .1)
-
-returns-19 : tie.Need-returns-19
-unfolding requestAt requestLen
-returns-19 c = rw (c .enum-told19 .given .1)
-
-returns-20 : tie.Need-returns-20
-unfolding requestAt requestLen
-returns-20 c = rw (c .enum-told20 .given .1)
-
-returns-21 : tie.Need-returns-21
-unfolding requestAt
-returns-21 c = rw (c .before .enum-told21 .given .1) (c .request-len3 .ensures)
-
-returns-22 : tie.Need-returns-22
-unfolding requestAt requestLen
-returns-22 c = rw (c .enum-told22 .given .1)
-
-returns-23 : tie.Need-returns-23
-unfolding requestAt requestLen
-returns-23 c = rw (c .enum-told23 .given .1)
-
-returns-24 : tie.Need-returns-24
-unfolding requestAt
-returns-24 c = rw (c .before .enum-told24 .given .1) (c .request-len4 .ensures)
+returns-5 c = c .fixed-len .ensures ∙ fixed (c .before .before .args .j) (c .before .before .args .l) (c .before .before .args .g) (c .before .match .keys5)
 
 pub stage-len-spec : {M : Type 1} → statement M
 stage-len-spec =
     tie.close
     (tie.spec
     enum-told
-    enum-told-2
-    enum-told-3
-    enum-told-4
-    enum-told-5
-    enum-told-6
-    enum-told-7
-    enum-told-8
-    enum-told-9
-    enum-told-10
-    enum-told-11
-    enum-told-12
-    enum-told-13
-    enum-told-14
-    enum-told-15
     request-len-requires
-    enum-told-16
+    enum-told-2
     request-len-requires-2
-    enum-told-17
-    enum-told-18
-    enum-told-19
-    enum-told-20
-    enum-told-21
+    enum-told-3
     request-len-requires-3
-    enum-told-22
-    enum-told-23
-    enum-told-24
+    enum-told-4
     request-len-requires-4
+    fixed-len-requires
     returns
     returns-2
     returns-3
     returns-4
-    returns-5
-    returns-6
-    returns-7
-    returns-8
-    returns-9
-    returns-10
-    returns-11
-    returns-12
-    returns-13
-    returns-14
-    returns-15
-    returns-16
-    returns-17
-    returns-18
-    returns-19
-    returns-20
-    returns-21
-    returns-22
-    returns-23
-    returns-24)
+    returns-5)

@@ -10,7 +10,7 @@ use Rattle.runs.proofs.exchanges.run_join.Tie as tie
 use Rattle.runs.proofs.exchanges.run_join.Reads as reads
 use Rattle.runs.proofs.exchanges.run_join.Lts as lts
 use Rattle.runs.proofs.exchanges.join_run.Reads as join-run-reads
-use Rattle.runs.proofs.settle.Reads as settle-reads
+use Rattle.turning.proofs.settle.Reads as settle-reads
 use Rattle.undo.proofs.keep_front.Reads as keep-front-reads
 
 -- src/exchanges.rt:139:5

@@ -10,7 +10,7 @@ use Rattle.runs.proofs.exchanges.run_plain.Tie as tie
 use Rattle.runs.proofs.exchanges.run_plain.Reads as reads
 use Rattle.runs.proofs.exchanges.run_plain.Lts as lts
 use Rattle.runs.proofs.exchanges.plain_run.Reads as plain-run-reads
-use Rattle.runs.proofs.settle.Reads as settle-reads
+use Rattle.turning.proofs.settle.Reads as settle-reads
 use Rattle.undo.proofs.keep_front.Reads as keep-front-reads
 
 -- src/exchanges.rt:97:5

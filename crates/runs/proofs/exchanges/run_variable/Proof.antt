@@ -10,7 +10,7 @@ use Rattle.runs.proofs.exchanges.run_variable.Tie as tie
 use Rattle.runs.proofs.exchanges.run_variable.Reads as reads
 use Rattle.runs.proofs.exchanges.run_variable.Lts as lts
 use Rattle.runs.proofs.exchanges.variable_run.Reads as variable-run-reads
-use Rattle.runs.proofs.settle.Reads as settle-reads
+use Rattle.turning.proofs.settle.Reads as settle-reads
 use Rattle.undo.proofs.keep_front.Reads as keep-front-reads
 
 -- src/exchanges.rt:181:5

@@ -11,7 +11,7 @@ use Rattle.runs.proofs.polling.run_poll.Tie as tie
 use Rattle.runs.proofs.polling.run_poll.Reads as reads
 use Rattle.runs.proofs.polling.run_poll.Lts as lts
 use Rattle.poll_call.proofs.poll_run.Reads as poll-run-reads
-use Rattle.runs.proofs.settle.Reads as settle-reads
+use Rattle.turning.proofs.settle.Reads as settle-reads
 use Rattle.undo.proofs.keep_front.Reads as keep-front-reads
 
 -- src/polling.rt:25:5

@@ -1,225 +1,55 @@
+use Prim.Native.Nat.{ℕ}
+use mathlib.Core.Path.{_≡_, refl}
+use mathlib.Core.Bool.{true, false}
+use mathlib.Core.List.{List, [], _∷_}
+use types.Run.{OneOf, miss}
+use denote.Enum.Declared.{tagOf}
 use borrow.Author.Needs.{needs}
+use Rattle.control.specs.declared.Stage.{Stage}
+use Rattle.control.proofs.Stage.{the-type}
 use Rattle.control.specs.Stages.{isLast}
 use Rattle.steps.proofs.stages.is_last.Statement.{statement}
 use Rattle.steps.proofs.stages.is_last.Tie as tie
 
+abbrev keys-others : List ℕ
+keys-others = 0 ∷ 1 ∷ 2 ∷ 3 ∷ 4 ∷ 5 ∷ 6 ∷ 7 ∷ 8 ∷ 9 ∷ 10 ∷ 11 ∷ 12 ∷ 13 ∷ 14 ∷ 15 ∷ 16 ∷ 17 ∷ 18 ∷ 19 ∷ 21 ∷ 22 ∷ 23 ∷ []
+
+others : (s : Stage) → OneOf keys-others (tagOf the-type s) → false ≡ isLast s
+unfolding isLast
+others Stage.Country h = refl
+others Stage.AntDiv h = refl
+others Stage.Txglom h = refl
+others Stage.Apsta h = refl
+others Stage.BaWsize h = refl
+others Stage.Mpdu h = refl
+others Stage.RxFactor h = refl
+others Stage.EventMessages h = refl
+others Stage.InitUp h = refl
+others Stage.JoinBaWsize h = refl
+others Stage.Wsec h = refl
+others Stage.SupWpa h = refl
+others Stage.Eapver h = refl
+others Stage.SupWpaTmo h = refl
+others Stage.Key h = refl
+others Stage.Sae h = refl
+others Stage.Infra h = refl
+others Stage.Auth h = refl
+others Stage.Mfp h = refl
+others Stage.WpaAuth h = refl
+others Stage.Ssid h = absurd (miss keys-others 20 tt h)
+others Stage.Escan h = refl
+others Stage.Disassoc h = refl
+others Stage.Single h = refl
+
 enum-told : tie.Need-enum-told
 enum-told c = search needs
 
-enum-told-2 : tie.Need-enum-told-2
-enum-told-2 c = search needs
-
-enum-told-3 : tie.Need-enum-told-3
-enum-told-3 c = search needs
-
-enum-told-4 : tie.Need-enum-told-4
-enum-told-4 c = search needs
-
-enum-told-5 : tie.Need-enum-told-5
-enum-told-5 c = search needs
-
-enum-told-6 : tie.Need-enum-told-6
-enum-told-6 c = search needs
-
-enum-told-7 : tie.Need-enum-told-7
-enum-told-7 c = search needs
-
-enum-told-8 : tie.Need-enum-told-8
-enum-told-8 c = search needs
-
-enum-told-9 : tie.Need-enum-told-9
-enum-told-9 c = search needs
-
-enum-told-10 : tie.Need-enum-told-10
-enum-told-10 c = search needs
-
-enum-told-11 : tie.Need-enum-told-11
-enum-told-11 c = search needs
-
-enum-told-12 : tie.Need-enum-told-12
-enum-told-12 c = search needs
-
-enum-told-13 : tie.Need-enum-told-13
-enum-told-13 c = search needs
-
-enum-told-14 : tie.Need-enum-told-14
-enum-told-14 c = search needs
-
-enum-told-15 : tie.Need-enum-told-15
-enum-told-15 c = search needs
-
-enum-told-16 : tie.Need-enum-told-16
-enum-told-16 c = search needs
-
-enum-told-17 : tie.Need-enum-told-17
-enum-told-17 c = search needs
-
-enum-told-18 : tie.Need-enum-told-18
-enum-told-18 c = search needs
-
-enum-told-19 : tie.Need-enum-told-19
-enum-told-19 c = search needs
-
-enum-told-20 : tie.Need-enum-told-20
-enum-told-20 c = search needs
-
-enum-told-21 : tie.Need-enum-told-21
-enum-told-21 c = search needs
-
-enum-told-22 : tie.Need-enum-told-22
-enum-told-22 c = search needs
-
-enum-told-23 : tie.Need-enum-told-23
-enum-told-23 c = search needs
-
-enum-told-24 : tie.Need-enum-told-24
-enum-told-24 c = search needs
-
 returns : tie.Need-returns
 unfolding isLast
-returns c = simp (c .enum-told .given .1)
+returns c = rw (c .enum-told .given .1)
 
 returns-2 : tie.Need-returns-2
-unfolding isLast
-returns-2 c = simp (c .enum-told2 .given .1)
-
-returns-3 : tie.Need-returns-3
-unfolding isLast
-returns-3 c = simp (c .enum-told3 .given .1)
-
-returns-4 : tie.Need-returns-4
-unfolding isLast
-returns-4 c = simp (c .enum-told4 .given .1)
-
-returns-5 : tie.Need-returns-5
-unfolding isLast
-returns-5 c = simp (c .enum-told5 .given .1)
-
-returns-6 : tie.Need-returns-6
-unfolding isLast
-returns-6 c = simp (c .enum-told6 .given .1)
-
-returns-7 : tie.Need-returns-7
-unfolding isLast
-returns-7 c = simp (c .enum-told7 .given .1)
-
-returns-8 : tie.Need-returns-8
-unfolding isLast
-returns-8 c = simp (c .enum-told8 .given .1)
-
-returns-9 : tie.Need-returns-9
-unfolding isLast
-returns-9 c = simp (c .enum-told9 .given .1)
-
-returns-10 : tie.Need-returns-10
-unfolding isLast
-returns-10 c = simp (c .enum-told10 .given .1)
-
-returns-11 : tie.Need-returns-11
-unfolding isLast
-returns-11 c = simp (c .enum-told11 .given .1)
-
-returns-12 : tie.Need-returns-12
-unfolding isLast
-returns-12 c = simp (c .enum-told12 .given .1)
-
-returns-13 : tie.Need-returns-13
-unfolding isLast
-returns-13 c = simp (c .enum-told13 .given .1)
-
-returns-14 : tie.Need-returns-14
-unfolding isLast
-returns-14 c = simp (c .enum-told14 .given .1)
-
-returns-15 : tie.Need-returns-15
-unfolding isLast
-returns-15 c = simp (c .enum-told15 .given .1)
-
-returns-16 : tie.Need-returns-16
-unfolding isLast
-returns-16 c = simp (c .enum-told16 .given .1)
-
-returns-17 : tie.Need-returns-17
-unfolding isLast
-returns-17 c = simp (c .enum-told17 .given .1)
-
-returns-18 : tie.Need-returns-18
-unfolding isLast
-returns-18 c = simp (c .enum-told18 .given .1)
-
-returns-19 : tie.Need-returns-19
-unfolding isLast
-returns-19 c = simp (c .enum-told19 .given .1)
-
-returns-20 : tie.Need-returns-20
-unfolding isLast
-returns-20 c = simp (c .enum-told20 .given .1)
-
-returns-21 : tie.Need-returns-21
-unfolding isLast
-returns-21 c = simp (c .enum-told21 .given .1)
-
-returns-22 : tie.Need-returns-22
-unfolding isLast
-returns-22 c = simp (c .enum-told22 .given .1)
-
-returns-23 : tie.Need-returns-23
-unfolding isLast
-returns-23 c = simp (c .enum-told23 .given .1)
-
-returns-24 : tie.Need-returns-24
-unfolding isLast
-returns-24 c = simp (c .enum-told24 .given .1)
+returns-2 c = others (c .before .args .s) (c .match .keys2)
 
 pub is-last-spec : {M : Type 1} → statement M
-is-last-spec =
-    tie.close
-    (tie.spec
-    enum-told
-    enum-told-2
-    enum-told-3
-    enum-told-4
-    enum-told-5
-    enum-told-6
-    enum-told-7
-    enum-told-8
-    enum-told-9
-    enum-told-10
-    enum-told-11
-    enum-told-12
-    enum-told-13
-    enum-told-14
-    enum-told-15
-    enum-told-16
-    enum-told-17
-    enum-told-18
-    enum-told-19
-    enum-told-20
-    enum-told-21
-    enum-told-22
-    enum-told-23
-    enum-told-24
-    returns
-    returns-2
-    returns-3
-    returns-4
-    returns-5
-    returns-6
-    returns-7
-    returns-8
-    returns-9
-    returns-10
-    returns-11
-    returns-12
-    returns-13
-    returns-14
-    returns-15
-    returns-16
-    returns-17
-    returns-18
-    returns-19
-    returns-20
-    returns-21
-    returns-22
-    returns-23
-    returns-24)
+is-last-spec = tie.close (tie.spec enum-told returns returns-2)
