@@ -1,63 +1,43 @@
--- <<
 use native.Mathlib.Omega.{arith}
 use Rattle.definition.specs.Calls.{Call}
 use Rattle.call.proofs.Laws as law
--- >>
 use borrow.Author.Needs.{needs}
 use Rattle.call.proofs.join.Statement.{statement}
 use Rattle.call.proofs.join.Tie as tie
-use Rattle.call.proofs.join.Reads as reads
-use Rattle.call.proofs.join.Lts as lts
-use Rattle.call.proofs.end_of.Reads as end-of-reads
-use Rattle.call.proofs.other_length.Reads as other-length-reads
-use Rattle.runs.proofs.exchanges.run_join.Reads as run-join-reads
-use Rattle.session_bytes.proofs.session.put_session.Reads as put-session-reads
 
--- src/lib.rt:107:9
 other-length-requires : tie.Need-other-length-requires
 other-length-requires c κs = search needs
 
--- src/lib.rt:107:9
 returns : tie.Need-returns
 returns c = law.other-called (Call.wifiConnect (c .before .before .before .before .before .before .before .args .auth) (c .before .before .before .before .before .before .before .args .ssid .now) (c .before .before .before .before .before .before .before .args .passphrase .now)) (c .before .before .before .before .before .before .before .args .st) (c .before .before .before .before .before .before .before .args .list) (c .before .before .before .before .before .before .before .args .rec .now) (c .before .before .before .before .before .before .before .args .log .now) (c .before .before .before .before .before .before .before .args .buf .now) (c .other-length .ensures) (c .before .if1 .taken)
 
--- src/lib.rt:111:49
 slice-aggregate-put-session : tie.Need-slice-aggregate-put-session
 slice-aggregate-put-session c = search needs
 
--- src/lib.rt:111:5
 put-session-requires : tie.Need-put-session-requires
 put-session-requires c κs = search needs
 
--- src/lib.rt:112:46
 slice-aggregate-run-join : tie.Need-slice-aggregate-run-join
 slice-aggregate-run-join c = search needs
 
--- src/lib.rt:112:54
 slice-aggregate-run-join-2 : tie.Need-slice-aggregate-run-join-2
 slice-aggregate-run-join-2 c = search needs
 
--- src/lib.rt:112:9
 run-join-requires : tie.Need-run-join-requires
 run-join-requires c κs = (rw (c .before .before .before .before .before .put-session .ensures .0) (c .before .before .before .before .before .put-session .ensures .1 .0), (search needs, omega (arith, c .before .before .before .before .before .before .before .if1 .left)))
 
--- src/lib.rt:113:15
 slice-aggregate-end-of : tie.Need-slice-aggregate-end-of
 slice-aggregate-end-of c = search needs
 
--- src/lib.rt:113:5
 end-of-requires : tie.Need-end-of-requires
 end-of-requires c κs = c .before .before .before .before .before .before .before .run-join .ensures .held
 
--- src/lib.rt:94:1
 same-length : tie.Need-same-length
 same-length c = search needs
 
--- src/lib.rt:94:1
 same-length-2 : tie.Need-same-length-2
 same-length-2 c = search needs
 
--- src/lib.rt:94:1
 returns-2 : tie.Need-returns-2
 returns-2 c = law.by-value (Call.wifiConnect (c .before .before .before .before .before .before .before .before .before .before .before .before .before .before .before .before .before .before .before .before .before .before .args .auth) (c .before .before .before .before .before .before .before .before .before .before .before .before .before .before .before .before .before .before .before .before .before .before .args .ssid .now) (c .before .before .before .before .before .before .before .before .before .before .before .before .before .before .before .before .before .before .before .before .before .before .args .passphrase .now)) (c .before .before .before .before .before .before .before .before .before .before .before .before .before .before .before .before .before .before .before .before .before .before .args .st) (c .before .before .before .before .before .before .before .before .before .before .before .before .before .before .before .before .before .before .before .before .before .before .args .list) (c .before .before .before .before .before .before .before .before .before .before .before .before .before .before .before .before .before .before .before .before .before .before .args .rec .now) (c .before .before .before .before .before .before .before .before .before .before .before .before .before .before .before .before .before .before .before .before .before .before .args .log .now) (c .before .before .before .before .before .before .before .before .before .before .before .before .before .before .before .before .before .before .before .before .before .before .args .buf .now) (c .before .before .before .before .before .before .before .before .before .before .before .before .before .before .put-session .ensures .0) (c .before .before .before .before .before .before .before .before .before .before .before .before .before .before .put-session .ensures .1 .1) (c .before .before .before .before .before .before .before .before .run-join .ensures) (c .end-of .ensures)
 

@@ -1,63 +1,43 @@
--- <<
 use native.Mathlib.Omega.{arith}
 use Rattle.definition.specs.Calls.{Call}
 use Rattle.call.proofs.Laws as law
--- >>
 use borrow.Author.Needs.{needs}
 use Rattle.call.proofs.send.Statement.{statement}
 use Rattle.call.proofs.send.Tie as tie
-use Rattle.call.proofs.send.Reads as reads
-use Rattle.call.proofs.send.Lts as lts
-use Rattle.call.proofs.end_of.Reads as end-of-reads
-use Rattle.call.proofs.other_length.Reads as other-length-reads
-use Rattle.runs.proofs.frames.run_send.Reads as run-send-reads
-use Rattle.session_bytes.proofs.session.put_session.Reads as put-session-reads
 
--- src/lib.rt:128:9
 other-length-requires : tie.Need-other-length-requires
 other-length-requires c κs = search needs
 
--- src/lib.rt:128:9
 returns : tie.Need-returns
 returns c = law.other-called (Call.sendData (c .before .before .before .before .before .before .args .interface) (c .before .before .before .before .before .before .args .frame .now)) (c .before .before .before .before .before .before .args .st) (c .before .before .before .before .before .before .args .list) (c .before .before .before .before .before .before .args .rec .now) (c .before .before .before .before .before .before .args .log .now) (c .before .before .before .before .before .before .args .buf .now) (c .other-length .ensures) (c .before .if1 .taken)
 
--- src/lib.rt:132:49
 slice-aggregate-put-session : tie.Need-slice-aggregate-put-session
 slice-aggregate-put-session c = search needs
 
--- src/lib.rt:132:5
 put-session-requires : tie.Need-put-session-requires
 put-session-requires c κs = search needs
 
--- src/lib.rt:133:40
 slice-aggregate-run-send : tie.Need-slice-aggregate-run-send
 slice-aggregate-run-send c = search needs
 
--- src/lib.rt:133:48
 slice-aggregate-run-send-2 : tie.Need-slice-aggregate-run-send-2
 slice-aggregate-run-send-2 c = search needs
 
--- src/lib.rt:133:9
 run-send-requires : tie.Need-run-send-requires
 run-send-requires c κs = (rw (c .before .before .before .before .before .put-session .ensures .0) (c .before .before .before .before .before .put-session .ensures .1 .0), (search needs, omega (arith, c .before .before .before .before .before .before .before .if1 .left)))
 
--- src/lib.rt:134:15
 slice-aggregate-end-of : tie.Need-slice-aggregate-end-of
 slice-aggregate-end-of c = search needs
 
--- src/lib.rt:134:5
 end-of-requires : tie.Need-end-of-requires
 end-of-requires c κs = c .before .before .before .before .before .before .before .run-send .ensures .held
 
--- src/lib.rt:116:1
 same-length : tie.Need-same-length
 same-length c = search needs
 
--- src/lib.rt:116:1
 same-length-2 : tie.Need-same-length-2
 same-length-2 c = search needs
 
--- src/lib.rt:116:1
 returns-2 : tie.Need-returns-2
 returns-2 c = law.by-value (Call.sendData (c .before .before .before .before .before .before .before .before .before .before .before .before .before .before .before .before .before .before .before .before .before .args .interface) (c .before .before .before .before .before .before .before .before .before .before .before .before .before .before .before .before .before .before .before .before .before .args .frame .now)) (c .before .before .before .before .before .before .before .before .before .before .before .before .before .before .before .before .before .before .before .before .before .args .st) (c .before .before .before .before .before .before .before .before .before .before .before .before .before .before .before .before .before .before .before .before .before .args .list) (c .before .before .before .before .before .before .before .before .before .before .before .before .before .before .before .before .before .before .before .before .before .args .rec .now) (c .before .before .before .before .before .before .before .before .before .before .before .before .before .before .before .before .before .before .before .before .before .args .log .now) (c .before .before .before .before .before .before .before .before .before .before .before .before .before .before .before .before .before .before .before .before .before .args .buf .now) (c .before .before .before .before .before .before .before .before .before .before .before .before .before .before .put-session .ensures .0) (c .before .before .before .before .before .before .before .before .before .before .before .before .before .before .put-session .ensures .1 .1) (c .before .before .before .before .before .before .before .before .run-send .ensures) (c .end-of .ensures)
 

@@ -1,61 +1,41 @@
--- <<
 use mathlib.Core.Path.{refl, sym, _∙_}
 use Rattle.control.specs.Poll.{tickStep}
 use Rattle.polls.proofs.Laws.{ticked, still, over-now}
--- >>
 use borrow.Author.Needs.{needs}
 use Rattle.polls.proofs.disconnecting.Statement.{statement}
 use Rattle.polls.proofs.disconnecting.Tie as tie
-use Rattle.polls.proofs.disconnecting.Reads as reads
-use Rattle.polls.proofs.disconnecting.Lts as lts
-use Rattle.places.proofs.read.tick_at.Reads as tick-at-reads
-use Rattle.polls.proofs.now_at.Reads as now-at-reads
-use Rattle.polls.proofs.over.Reads as over-reads
-use Rattle.polls.proofs.report.Reads as report-reads
-use Rattle.run_end.proofs.unfailed.Reads as unfailed-reads
 
--- src/lib.rt:129:9
 tick-at-requires : tie.Need-tick-at-requires
 tick-at-requires c κs = search needs
 
--- src/lib.rt:131:42
 enum-told : tie.Need-enum-told
 enum-told c = search needs
 
--- src/lib.rt:131:35
 report-requires : tie.Need-report-requires
 report-requires c κs = search needs
 
--- src/lib.rt:131:30
 over-requires : tie.Need-over-requires
 over-requires c κs = search needs
 
--- src/lib.rt:132:27
 enum-known-t : tie.Need-enum-known-t
 enum-known-t c = search needs
 
--- src/lib.rt:132:58
 unfailed-requires : tie.Need-unfailed-requires
 unfailed-requires c κs = search needs
 
--- src/lib.rt:132:33
 now-at-requires : tie.Need-now-at-requires
 now-at-requires c κs = search needs
 
--- src/lib.rt:125:1
 same-length : tie.Need-same-length
 same-length c = search needs
 
--- src/lib.rt:125:1
 returns : tie.Need-returns
 unfolding tickStep
 returns c = simp (sym (c .before .before .before .before .before .before .before .tick-at .ensures) ∙ c .before .before .before .before .before .enum-told .given .1) (over-now _ (c .over .ensures .0) (c .over .ensures .1) (c .before .before .before .report .ensures))
 
--- src/lib.rt:125:1
 same-length-2 : tie.Need-same-length-2
 same-length-2 c = search needs
 
--- src/lib.rt:125:1
 returns-2 : tie.Need-returns-2
 unfolding tickStep
 returns-2 c = simp (sym (c .before .before .before .before .before .tick-at .ensures) ∙ c .before .before .before .t .given .1) (still (c .before .before .before .before .before .before .before .before .pre) (ticked _ (c .now-at .ensures .0) (c .now-at .ensures .1)) refl)

@@ -1,4 +1,3 @@
--- <<
 use mathlib.Core.Path.{refl}
 use mathlib.Core.Bool.{false}
 use Prim.Native.Nat.{_<_, _≤_}
@@ -7,47 +6,32 @@ use borrow.Author.Tests.{lt-ltb, le-ltb}
 use Rattle.wlan.specs.declared.WlanPollResult.{WlanPollResult}
 use Rattle.control.specs.Poll.{frameStep}
 use Rattle.polls.proofs.Laws.{ended, polled-gives, changed}
--- >>
 use borrow.Author.Needs.{needs}
 use Rattle.polls.proofs.frame.Statement.{statement}
 use Rattle.polls.proofs.frame.Tie as tie
-use Rattle.polls.proofs.frame.Reads as reads
-use Rattle.polls.proofs.frame.Lts as lts
-use Rattle.places.proofs.write.put_frame.Reads as put-frame-reads
-use Rattle.polls.proofs.over.Reads as over-reads
-use Rattle.polls.proofs.polling.Reads as polling-reads
-use Rattle.run_end.proofs.unfailed.Reads as unfailed-reads
 
--- src/lib.rt:156:9
 polling-requires : tie.Need-polling-requires
 polling-requires c κs = search needs
 
--- src/lib.rt:156:9
 same-length : tie.Need-same-length
 same-length c = search needs
 
--- src/lib.rt:156:9
 returns : tie.Need-returns
 unfolding frameStep
 returns c = let e : c .before .before .before .before .args .len < 14 = omega arith in simp (lt-ltb _ _ e) (c .polling .ensures false)
 
--- src/lib.rt:158:5
 put-frame-requires : tie.Need-put-frame-requires
 put-frame-requires c κs = search needs
 
--- src/lib.rt:165:10
 unfailed-requires : tie.Need-unfailed-requires
 unfailed-requires c κs = search needs
 
--- src/lib.rt:165:5
 over-requires : tie.Need-over-requires
 over-requires c κs = search needs
 
--- src/lib.rt:151:1
 same-length-2 : tie.Need-same-length-2
 same-length-2 c = search needs
 
--- src/lib.rt:151:1
 returns-2 : tie.Need-returns-2
 unfolding frameStep
 returns-2 c = let e : 14 ≤ c .before .before .before .before .before .before .before .before .args .len = omega arith in simp (le-ltb _ _ e) (changed (c .before .before .before .before .put-frame .ensures) (ended _ _ (c .over .ensures .0) (c .over .ensures .1) (rw (c .before .unfailed .ensures) (polled-gives WlanPollResult.Rx))) refl)

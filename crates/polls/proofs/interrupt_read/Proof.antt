@@ -1,41 +1,29 @@
--- <<
 use mathlib.Core.Path.{_≡_, refl}
 use Prim.Native.Nat.{_%_}
 use Rattle.receive.specs.Receive.{pointBy}
 use Rattle.control.specs.Poll.{pollPoint, nextStep, packetStep}
 use Rattle.device.specs.Poll.{pollAnswer, valuedStep, interruptStep, acknowledged}
 use Rattle.polls.proofs.Laws.{asked, acknowledges}
--- >>
 use borrow.Author.Needs.{needs}
 use Rattle.polls.proofs.interrupt_read.Statement.{statement}
 use Rattle.polls.proofs.interrupt_read.Tie as tie
-use Rattle.polls.proofs.interrupt_read.Reads as reads
-use Rattle.polls.proofs.interrupt_read.Lts as lts
-use Rattle.polls.proofs.asks.Reads as asks-reads
-use Rattle.polls.proofs.nothing.Reads as nothing-reads
 
--- src/lib.rt:202:13
 cast-i : tie.Need-cast-i
 cast-i c = search needs
 
--- src/lib.rt:204:9
 nothing-requires : tie.Need-nothing-requires
 nothing-requires c κs = search needs
 
--- src/lib.rt:204:9
 same-length : tie.Need-same-length
 same-length c = search needs
 
--- src/lib.rt:204:9
 returns : tie.Need-returns
 unfolding pollPoint nextStep packetStep pollAnswer valuedStep interruptStep acknowledged
 returns c = λ a. let e : c .before .before .before .before .before .before .args .v % 65536 ≡ 0 = c .before .before .before .before .if1 .taken in rw e (c .before .before .nothing .ensures)
 
--- src/lib.rt:206:5
 asks-requires : tie.Need-asks-requires
 asks-requires c κs = search needs
 
--- src/lib.rt:198:1
 returns-2 : tie.Need-returns-2
 unfolding pointBy
 returns-2 c = λ a. acknowledges (c .asks .result) (c .before .before .before .args .s .now) (c .before .before .before .args .v) a (c .before .before .before .pre) (c .before .if1 .left) (asked (c .asks .result) (c .asks .ensures .0) (c .asks .ensures .1))

@@ -1,86 +1,62 @@
--- <<
 use mathlib.Core.Path.{refl, sym, _∙_}
 use Rattle.wlan.specs.declared.WlanPollResult.{WlanPollResult}
 use Rattle.control.specs.Poll.{reportBy}
 use Rattle.polls.proofs.Laws.{polled-gives, still}
--- >>
 use borrow.Author.Needs.{needs}
 use Rattle.polls.proofs.report.Statement.{statement}
 use Rattle.polls.proofs.report.Tie as tie
-use Rattle.polls.proofs.report.Reads as reads
-use Rattle.polls.proofs.report.Lts as lts
-use Rattle.places.proofs.read.wifi_at.Reads as wifi-at-reads
-use Rattle.polls.proofs.report_down.Reads as report-down-reads
-use Rattle.run_end.proofs.unfailed.Reads as unfailed-reads
 
--- src/lib.rt:116:9
 wifi-at-requires : tie.Need-wifi-at-requires
 wifi-at-requires c κs = search needs
 
--- src/lib.rt:118:40
 enum-told : tie.Need-enum-told
 enum-told c = search needs
 
--- src/lib.rt:118:28
 report-down-requires : tie.Need-report-down-requires
 report-down-requires c κs = search needs
 
--- src/lib.rt:119:34
 enum-told-2 : tie.Need-enum-told-2
 enum-told-2 c = search needs
 
--- src/lib.rt:119:34
 unfailed-requires : tie.Need-unfailed-requires
 unfailed-requires c κs = search needs
 
--- src/lib.rt:120:33
 enum-told-3 : tie.Need-enum-told-3
 enum-told-3 c = search needs
 
--- src/lib.rt:120:33
 unfailed-requires-2 : tie.Need-unfailed-requires-2
 unfailed-requires-2 c κs = search needs
 
--- src/lib.rt:121:37
 enum-told-4 : tie.Need-enum-told-4
 enum-told-4 c = search needs
 
--- src/lib.rt:121:37
 unfailed-requires-3 : tie.Need-unfailed-requires-3
 unfailed-requires-3 c κs = search needs
 
--- src/lib.rt:112:1
 same-length : tie.Need-same-length
 same-length c = search needs
 
--- src/lib.rt:112:1
 returns : tie.Need-returns
 unfolding reportBy
 returns c = simp (sym (c .before .before .before .before .before .before .wifi-at .ensures) ∙ c .before .before .before .before .enum-told .given .1) (c .before .before .report-down .ensures)
 
--- src/lib.rt:112:1
 same-length-2 : tie.Need-same-length-2
 same-length-2 c = search needs
 
--- src/lib.rt:112:1
 returns-2 : tie.Need-returns-2
 unfolding reportBy
 returns-2 c = simp (sym (c .before .before .before .wifi-at .ensures) ∙ c .before .enum-told2 .given .1) (still (c .before .before .before .before .before .before .pre) (rw (c .unfailed .ensures) (polled-gives WlanPollResult.None)) refl)
 
--- src/lib.rt:112:1
 same-length-3 : tie.Need-same-length-3
 same-length-3 c = search needs
 
--- src/lib.rt:112:1
 returns-3 : tie.Need-returns-3
 unfolding reportBy
 returns-3 c = simp (sym (c .before .before .before .wifi-at .ensures) ∙ c .before .enum-told3 .given .1) (still (c .before .before .before .before .before .before .pre) (rw (c .unfailed2 .ensures) (polled-gives WlanPollResult.None)) refl)
 
--- src/lib.rt:112:1
 same-length-4 : tie.Need-same-length-4
 same-length-4 c = search needs
 
--- src/lib.rt:112:1
 returns-4 : tie.Need-returns-4
 unfolding reportBy
 returns-4 c = simp (sym (c .before .before .before .wifi-at .ensures) ∙ c .before .enum-told4 .given .1) (still (c .before .before .before .before .before .before .pre) (rw (c .unfailed3 .ensures) (polled-gives WlanPollResult.None)) refl)

@@ -1,39 +1,25 @@
--- <<
 use Rattle.wlan.specs.declared.State.{State}
 use Rattle.control.specs.Poll.{nothingStep}
 use Rattle.polls.proofs.Laws.{quiet-moved}
--- >>
 use borrow.Author.Needs.{needs}
 use Rattle.polls.proofs.unmarked.Statement.{statement}
 use Rattle.polls.proofs.unmarked.Tie as tie
-use Rattle.polls.proofs.unmarked.Reads as reads
-use Rattle.polls.proofs.unmarked.Lts as lts
-use Rattle.places.proofs.read.sdpcm_at.Reads as sdpcm-at-reads
-use Rattle.places.proofs.write.put_sdpcm.Reads as put-sdpcm-reads
-use Rattle.polls.proofs.nothing.Reads as nothing-reads
-use Rattle.wlan.proofs.setters.set_mark.Reads as set-mark-reads
 
--- src/lib.rt:223:27
 sdpcm-at-requires : tie.Need-sdpcm-at-requires
 sdpcm-at-requires c κs = search needs
 
--- src/lib.rt:223:18
 set-mark-requires : tie.Need-set-mark-requires
 set-mark-requires c κs = search needs
 
--- src/lib.rt:223:5
 put-sdpcm-requires : tie.Need-put-sdpcm-requires
 put-sdpcm-requires c κs = search needs
 
--- src/lib.rt:224:5
 nothing-requires : tie.Need-nothing-requires
 nothing-requires c κs = search needs
 
--- src/lib.rt:219:1
 same-length : tie.Need-same-length
 same-length c = search needs
 
--- src/lib.rt:219:1
 returns : tie.Need-returns
 returns c = quiet-moved (λ (s : State). nothingStep s) (rw (c .before .before .before .before .before .before .before .set-mark .ensures, c .before .before .before .before .before .before .before .before .sdpcm-at .ensures) at (c .before .before .before .before .before .before .put-sdpcm .ensures)) (c .before .before .nothing .ensures)
 

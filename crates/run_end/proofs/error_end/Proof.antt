@@ -1,124 +1,90 @@
--- <<
 use mathlib.Core.Path.{refl, sym, _∙_}
 use native.Mathlib.Omega.{arith}
--- >>
 use borrow.Author.Needs.{needs}
 use Rattle.run_end.proofs.error_end.Statement.{statement}
 use Rattle.run_end.proofs.error_end.Tie as tie
-use Rattle.run_end.proofs.error_end.Reads as reads
-use Rattle.run_end.proofs.error_end.Lts as lts
-use Rattle.run_end.proofs.value_end.Reads as value-end-reads
-use Rattle.run_end.proofs.wide8.Reads as wide8-reads
 
--- src/lib.rt:109:46
 enum-told : tie.Need-enum-told
 enum-told c = search needs
 
--- src/lib.rt:109:36
 value-end-requires : tie.Need-value-end-requires
 value-end-requires c κs = search needs
 
--- src/lib.rt:110:43
 enum-told-2 : tie.Need-enum-told-2
 enum-told-2 c = search needs
 
--- src/lib.rt:110:33
 value-end-requires-2 : tie.Need-value-end-requires-2
 value-end-requires-2 c κs = search needs
 
--- src/lib.rt:111:38
 enum-told-3 : tie.Need-enum-told-3
 enum-told-3 c = search needs
 
--- src/lib.rt:111:28
 value-end-requires-3 : tie.Need-value-end-requires-3
 value-end-requires-3 c κs = search needs
 
--- src/lib.rt:112:40
 enum-told-4 : tie.Need-enum-told-4
 enum-told-4 c = search needs
 
--- src/lib.rt:112:30
 value-end-requires-4 : tie.Need-value-end-requires-4
 value-end-requires-4 c κs = search needs
 
--- src/lib.rt:113:46
 enum-told-5 : tie.Need-enum-told-5
 enum-told-5 c = search needs
 
--- src/lib.rt:113:36
 value-end-requires-5 : tie.Need-value-end-requires-5
 value-end-requires-5 c κs = search needs
 
--- src/lib.rt:114:41
 enum-told-6 : tie.Need-enum-told-6
 enum-told-6 c = search needs
 
--- src/lib.rt:114:31
 value-end-requires-6 : tie.Need-value-end-requires-6
 value-end-requires-6 c κs = search needs
 
--- src/lib.rt:115:28
 enum-known-e : tie.Need-enum-known-e
 enum-known-e c = search needs
 
--- src/lib.rt:115:60
 wide8-requires : tie.Need-wide8-requires
 wide8-requires c κs = search needs
 
--- src/lib.rt:115:34
 value-end-requires-7 : tie.Need-value-end-requires-7
 value-end-requires-7 c κs = search needs
 
--- src/lib.rt:116:47
 enum-told-7 : tie.Need-enum-told-7
 enum-told-7 c = search needs
 
--- src/lib.rt:116:37
 value-end-requires-8 : tie.Need-value-end-requires-8
 value-end-requires-8 c κs = search needs
 
--- src/lib.rt:117:46
 enum-told-8 : tie.Need-enum-told-8
 enum-told-8 c = search needs
 
--- src/lib.rt:117:36
 value-end-requires-9 : tie.Need-value-end-requires-9
 value-end-requires-9 c κs = search needs
 
--- src/lib.rt:105:1
 returns : tie.Need-returns
 returns c = rw (c .before .enum-told .given .1) (c .value-end .ensures, omega arith)
 
--- src/lib.rt:105:1
 returns-2 : tie.Need-returns-2
 returns-2 c = rw (c .before .enum-told2 .given .1) (c .value-end2 .ensures, omega arith)
 
--- src/lib.rt:105:1
 returns-3 : tie.Need-returns-3
 returns-3 c = rw (c .before .enum-told3 .given .1) (c .value-end3 .ensures, omega arith)
 
--- src/lib.rt:105:1
 returns-4 : tie.Need-returns-4
 returns-4 c = rw (c .before .enum-told4 .given .1) (c .value-end4 .ensures, omega arith)
 
--- src/lib.rt:105:1
 returns-5 : tie.Need-returns-5
 returns-5 c = rw (c .before .enum-told5 .given .1) (c .value-end5 .ensures, omega arith)
 
--- src/lib.rt:105:1
 returns-6 : tie.Need-returns-6
 returns-6 c = rw (c .before .enum-told6 .given .1) (c .value-end6 .ensures, omega arith)
 
--- src/lib.rt:105:1
 returns-7 : tie.Need-returns-7
 returns-7 c = rw (c .before .before .before .e .given .1, ← c .before .wide8 .ensures .0) (c .value-end7 .ensures, c .before .wide8 .ensures .1)
 
--- src/lib.rt:105:1
 returns-8 : tie.Need-returns-8
 returns-8 c = rw (c .before .enum-told7 .given .1) (c .value-end8 .ensures, omega arith)
 
--- src/lib.rt:105:1
 returns-9 : tie.Need-returns-9
 returns-9 c = rw (c .before .enum-told8 .given .1) (c .value-end9 .ensures, omega arith)
 

@@ -1,18 +1,11 @@
--- <<
 use mathlib.Core.Path.{refl}
--- >>
 use borrow.Author.Needs.{needs}
 use Rattle.run_end.proofs.failed_join.Statement.{statement}
 use Rattle.run_end.proofs.failed_join.Tie as tie
-use Rattle.run_end.proofs.failed_join.Reads as reads
-use Rattle.run_end.proofs.failed_join.Lts as lts
-use Rattle.state_bytes.proofs.parts.failure_parts.Reads as failure-parts-reads
 
--- src/lib.rt:155:18
 failure-parts-requires : tie.Need-failure-parts-requires
 failure-parts-requires c κs = search needs
 
--- src/lib.rt:150:1
 returns : tie.Need-returns
 returns c = rw (c .failure-parts .ensures) refl
 

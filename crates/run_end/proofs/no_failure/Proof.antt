@@ -1,14 +1,9 @@
--- <<
 use borrow.Author.Needs.{needs}
 use mathlib.Core.Path.{refl}
 use Rattle.state_bytes.specs.Parts.{failureParts}
--- >>
 use Rattle.run_end.proofs.no_failure.Statement.{statement}
 use Rattle.run_end.proofs.no_failure.Tie as tie
-use Rattle.run_end.proofs.no_failure.Reads as reads
-use Rattle.run_end.proofs.no_failure.Lts as lts
 
--- src/lib.rt:58:1
 returns : tie.Need-returns
 unfolding failureParts
 returns c = refl

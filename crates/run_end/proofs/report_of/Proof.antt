@@ -1,47 +1,32 @@
--- <<
 use mathlib.Core.Path.{refl, _∙_}
--- >>
 use borrow.Author.Needs.{needs}
 use Rattle.run_end.proofs.report_of.Statement.{statement}
 use Rattle.run_end.proofs.report_of.Tie as tie
-use Rattle.run_end.proofs.report_of.Reads as reads
-use Rattle.run_end.proofs.report_of.Lts as lts
-use Rattle.run_end.proofs.failed_join.Reads as failed-join-reads
-use Rattle.run_end.proofs.unfailed.Reads as unfailed-reads
 
--- src/lib.rt:163:33
 enum-told : tie.Need-enum-told
 enum-told c = search needs
 
--- src/lib.rt:163:33
 unfailed-requires : tie.Need-unfailed-requires
 unfailed-requires c κs = search needs
 
--- src/lib.rt:164:31
 enum-told-2 : tie.Need-enum-told-2
 enum-told-2 c = search needs
 
--- src/lib.rt:164:31
 unfailed-requires-2 : tie.Need-unfailed-requires-2
 unfailed-requires-2 c κs = search needs
 
--- src/lib.rt:165:39
 enum-known-p : tie.Need-enum-known-p
 enum-known-p c = search needs
 
--- src/lib.rt:165:45
 failed-join-requires : tie.Need-failed-join-requires
 failed-join-requires c κs = search needs
 
--- src/lib.rt:159:1
 returns : tie.Need-returns
 returns c = rw (c .before .enum-told .given .1) (c .unfailed .ensures)
 
--- src/lib.rt:159:1
 returns-2 : tie.Need-returns-2
 returns-2 c = rw (c .before .enum-told2 .given .1) (c .unfailed2 .ensures)
 
--- src/lib.rt:159:1
 returns-3 : tie.Need-returns-3
 returns-3 c = rw (c .before .before .p .given .1) (c .failed-join .ensures)
 

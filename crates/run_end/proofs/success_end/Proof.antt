@@ -1,87 +1,59 @@
--- <<
 use mathlib.Core.Path.{refl, sym, _∙_}
--- >>
 use borrow.Author.Needs.{needs}
 use Rattle.run_end.proofs.success_end.Statement.{statement}
 use Rattle.run_end.proofs.success_end.Tie as tie
-use Rattle.run_end.proofs.success_end.Reads as reads
-use Rattle.run_end.proofs.success_end.Lts as lts
-use Rattle.run_end.proofs.done_end.Reads as done-end-reads
-use Rattle.run_end.proofs.polled_end.Reads as polled-end-reads
-use Rattle.run_end.proofs.report_of.Reads as report-of-reads
-use Rattle.run_end.proofs.value_end.Reads as value-end-reads
-use Rattle.run_end.proofs.wide16.Reads as wide16-reads
-use Rattle.run_end.proofs.wide32.Reads as wide32-reads
 
--- src/lib.rt:174:26
 enum-told : tie.Need-enum-told
 enum-told c = search needs
 
--- src/lib.rt:174:26
 done-end-requires : tie.Need-done-end-requires
 done-end-requires c κs = search needs
 
--- src/lib.rt:175:25
 enum-known-x : tie.Need-enum-known-x
 enum-known-x c = search needs
 
--- src/lib.rt:175:42
 report-of-requires : tie.Need-report-of-requires
 report-of-requires c κs = search needs
 
--- src/lib.rt:175:31
 polled-end-requires : tie.Need-polled-end-requires
 polled-end-requires c κs = search needs
 
--- src/lib.rt:176:24
 enum-known-x-2 : tie.Need-enum-known-x-2
 enum-known-x-2 c = search needs
 
--- src/lib.rt:176:56
 wide16-requires : tie.Need-wide16-requires
 wide16-requires c κs = search needs
 
--- src/lib.rt:176:30
 value-end-requires : tie.Need-value-end-requires
 value-end-requires c κs = search needs
 
--- src/lib.rt:177:22
 enum-known-x-3 : tie.Need-enum-known-x-3
 enum-known-x-3 c = search needs
 
--- src/lib.rt:177:28
 value-end-requires-2 : tie.Need-value-end-requires-2
 value-end-requires-2 c κs = search needs
 
--- src/lib.rt:178:23
 enum-known-x-4 : tie.Need-enum-known-x-4
 enum-known-x-4 c = search needs
 
--- src/lib.rt:178:54
 wide32-requires : tie.Need-wide32-requires
 wide32-requires c κs = search needs
 
--- src/lib.rt:178:29
 value-end-requires-3 : tie.Need-value-end-requires-3
 value-end-requires-3 c κs = search needs
 
--- src/lib.rt:170:1
 returns : tie.Need-returns
 returns c = rw (c .before .enum-told .given .1) (c .done-end .ensures, tt)
 
--- src/lib.rt:170:1
 returns-2 : tie.Need-returns-2
 returns-2 c = rw (c .before .before .before .x .given .1) (rw (c .before .report-of .ensures) at (c .polled-end .ensures), tt)
 
--- src/lib.rt:170:1
 returns-3 : tie.Need-returns-3
 returns-3 c = rw (c .before .before .before .x2 .given .1, ← c .before .wide16 .ensures .0) (c .value-end .ensures, c .before .wide16 .ensures .1)
 
--- src/lib.rt:170:1
 returns-4 : tie.Need-returns-4
 returns-4 c = rw (c .before .before .x3 .given .1) (c .value-end2 .ensures, tt)
 
--- src/lib.rt:170:1
 returns-5 : tie.Need-returns-5
 returns-5 c = rw (c .before .before .before .x4 .given .1, ← c .before .wide32 .ensures .0) (c .value-end3 .ensures, c .before .wide32 .ensures .1)
 

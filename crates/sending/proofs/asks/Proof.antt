@@ -3,10 +3,7 @@ use mathlib.Core.Path.{refl}
 use Rattle.sending.specs.Sending.{nextBy}
 use Rattle.sending.proofs.asks.Statement.{statement}
 use Rattle.sending.proofs.asks.Tie as tie
-use Rattle.sending.proofs.asks.Reads as reads
-use Rattle.sending.proofs.asks.Lts as lts
 
--- src/lib.rt:73:1
 returns : tie.Need-returns
 unfolding nextBy
 returns c = λ h. refl

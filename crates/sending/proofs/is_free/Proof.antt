@@ -5,20 +5,14 @@ use Rattle.definition.specs.Send.{free}
 use borrow.Author.Needs.{needs}
 use Rattle.sending.proofs.is_free.Statement.{statement}
 use Rattle.sending.proofs.is_free.Tie as tie
-use Rattle.sending.proofs.is_free.Reads as reads
-use Rattle.sending.proofs.is_free.Lts as lts
-use Rattle.places.proofs.read.sdpcm_at.Reads as sdpcm-at-reads
 
--- src/lib.rt:140:9
 sdpcm-at-requires : tie.Need-sdpcm-at-requires
 sdpcm-at-requires c κs = search needs
 
--- src/lib.rt:136:1
 returns : tie.Need-returns
 unfolding free
 returns c = let e : c .before .before .before .sdpcm-at .result .«wlan_flow_control» ≡ 0 = omega arith in simp (← c .before .before .before .sdpcm-at .ensures, eq-eqb _ _ e)
 
--- src/lib.rt:136:1
 returns-2 : tie.Need-returns-2
 unfolding free
 returns-2 c = let e : c .before .before .sdpcm-at .result .«wlan_flow_control» ≡ 0 → ⊥ = λ h. omega arith in simp (← c .before .before .sdpcm-at .ensures, ne-eqb _ _ e)

@@ -8,43 +8,30 @@ use Rattle.sending.specs.Sending.{pointBy}
 use borrow.Author.Needs.{needs}
 use Rattle.sending.proofs.ready_read.Statement.{statement}
 use Rattle.sending.proofs.ready_read.Tie as tie
-use Rattle.sending.proofs.ready_read.Reads as reads
-use Rattle.sending.proofs.ready_read.Lts as lts
-use Rattle.sdpcm.proofs.status.f2_ready.Reads as f2-ready-reads
-use Rattle.sending.proofs.refuse.Reads as refuse-reads
-use Rattle.sending.proofs.waits.Reads as waits-reads
 
--- src/lib.rt:289:8
 f2-ready-requires : tie.Need-f2-ready-requires
 f2-ready-requires c κs = search needs
 
--- src/lib.rt:290:9
 waits-requires : tie.Need-waits-requires
 waits-requires c κs = search needs
 
--- src/lib.rt:290:9
 returns : tie.Need-returns
 unfolding readyStep pointBy
 returns c = λ s. simp (not-true (eqb (bitAnd (c .before .before .before .args .v) 0x20) 0) (sym (c .before .before .f2-ready .ensures) ∙ c .before .if1 .taken), c .waits .ensures HeaderPut.None)
 
--- src/lib.rt:293:9
 refuse-requires : tie.Need-refuse-requires
 refuse-requires c κs = search needs
 
--- src/lib.rt:293:9
 returns-2 : tie.Need-returns-2
 unfolding readyStep
 returns-2 c = λ s. simp (not-false (eqb (bitAnd (c .before .before .before .before .args .v) 0x20) 0) (sym (c .before .before .before .f2-ready .ensures) ∙ c .before .before .if1 .left), eq-eqb _ _ (c .before .if2 .taken), c .refuse .ensures HeaderPut.None)
 
--- src/lib.rt:295:31
 sub-waits : tie.Need-sub-waits
 sub-waits c = search needs
 
--- src/lib.rt:295:5
 waits-requires-2 : tie.Need-waits-requires-2
 waits-requires-2 c κs = search needs
 
--- src/lib.rt:286:1
 returns-3 : tie.Need-returns-3
 unfolding readyStep pointBy
 returns-3 c = λ s. simp (not-false (eqb (bitAnd (c .before .before .before .before .args .v) 0x20) 0) (sym (c .before .before .before .f2-ready .ensures) ∙ c .before .before .if1 .left), ne-eqb _ _ (c .before .if2 .left), c .waits2 .ensures HeaderPut.None)

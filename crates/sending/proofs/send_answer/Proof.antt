@@ -5,112 +5,81 @@ use Rattle.sending.proofs.Laws.{still, unheard}
 use borrow.Author.Needs.{needs}
 use Rattle.sending.proofs.send_answer.Statement.{statement}
 use Rattle.sending.proofs.send_answer.Tie as tie
-use Rattle.sending.proofs.send_answer.Reads as reads
-use Rattle.sending.proofs.send_answer.Lts as lts
-use Rattle.sending.proofs.polling.Reads as polling-reads
-use Rattle.sending.proofs.ready_read.Reads as ready-read-reads
-use Rattle.sending.proofs.sent.Reads as sent-reads
-use Rattle.sending.proofs.stall_late.Reads as stall-late-reads
-use Rattle.sending.proofs.stall_poll.Reads as stall-poll-reads
 
--- src/lib.rt:316:36
 enum-told : tie.Need-enum-told
 enum-told c = search needs
 
--- src/lib.rt:316:28
 polling-requires : tie.Need-polling-requires
 polling-requires c κs = search needs
 
--- src/lib.rt:317:41
 enum-told-2 : tie.Need-enum-told-2
 enum-told-2 c = search needs
 
--- src/lib.rt:317:30
 stall-poll-requires : tie.Need-stall-poll-requires
 stall-poll-requires c κs = search needs
 
--- src/lib.rt:318:27
 enum-told-3 : tie.Need-enum-told-3
 enum-told-3 c = search needs
 
--- src/lib.rt:318:27
 stall-late-requires : tie.Need-stall-late-requires
 stall-late-requires c κs = search needs
 
--- src/lib.rt:319:37
 enum-told-4 : tie.Need-enum-told-4
 enum-told-4 c = search needs
 
--- src/lib.rt:319:29
 polling-requires-2 : tie.Need-polling-requires-2
 polling-requires-2 c κs = search needs
 
--- src/lib.rt:320:53
 enum-told-5 : tie.Need-enum-told-5
 enum-told-5 c = search needs
 
--- src/lib.rt:320:52
 cast-ready-read : tie.Need-cast-ready-read
 cast-ready-read c = search needs
 
--- src/lib.rt:320:28
 ready-read-requires : tie.Need-ready-read-requires
 ready-read-requires c κs = search needs
 
--- src/lib.rt:321:30
 enum-told-6 : tie.Need-enum-told-6
 enum-told-6 c = search needs
 
--- src/lib.rt:321:30
 sent-requires : tie.Need-sent-requires
 sent-requires c κs = search needs
 
--- src/lib.rt:299:1
 same-length : tie.Need-same-length
 same-length c = search needs
 
--- src/lib.rt:299:1
 returns : tie.Need-returns
 unfolding sendAnswer stallAnswer atFirst pointBy
 returns c = rw (c .before .before .enum-told .given .1) (unheard _ (still (c .before .before .before .before .before .before .before .before .pre .1 .0) (c .before .before .before .before .before .before .before .before .pre .0) (c .polling .ensures)))
 
--- src/lib.rt:299:1
 same-length-2 : tie.Need-same-length-2
 same-length-2 c = search needs
 
--- src/lib.rt:299:1
 same-length-3 : tie.Need-same-length-3
 same-length-3 c = search needs
 
--- src/lib.rt:299:1
 same-length-4 : tie.Need-same-length-4
 same-length-4 c = search needs
 
--- src/lib.rt:299:1
 returns-2 : tie.Need-returns-2
 unfolding sendAnswer sendOp stallAnswer stallOp pointBy
 returns-2 c = rw (c .before .before .before .before .before .before .before .before .before .before .enum-told2 .given .1) (c .before .before .before .before .before .before .stall-poll .ensures)
 
--- src/lib.rt:299:1
 returns-3 : tie.Need-returns-3
 unfolding sendAnswer stallAnswer atLate pointBy
 returns-3 c = rw (c .before .enum-told3 .given .1) (unheard _ (still (c .before .before .before .before .before .before .before .pre .1 .0) (c .before .before .before .before .before .before .before .pre .0) (c .stall-late .ensures _)))
 
--- src/lib.rt:299:1
 same-length-5 : tie.Need-same-length-5
 same-length-5 c = search needs
 
--- src/lib.rt:299:1
 returns-4 : tie.Need-returns-4
 unfolding sendAnswer stallAnswer pointBy
 returns-4 c = rw (c .before .before .enum-told4 .given .1) (unheard _ (still (c .before .before .before .before .before .before .before .before .pre .1 .0) (c .before .before .before .before .before .before .before .before .pre .0) (c .polling2 .ensures)))
 
--- src/lib.rt:299:1
 returns-5 : tie.Need-returns-5
 unfolding sendAnswer atReady pointBy
 returns-5 c = rw (c .before .enum-told5 .given .1) (unheard _ (still (c .before .before .before .before .before .before .before .pre .1 .0) (c .before .before .before .before .before .before .before .pre .0) (c .ready-read .ensures _)))
 
--- src/lib.rt:299:1
 returns-6 : tie.Need-returns-6
 unfolding sendAnswer atWriting pointBy
 returns-6 c = rw (c .before .enum-told6 .given .1) (unheard _ (still (c .before .before .before .before .before .before .before .pre .1 .0) (c .before .before .before .before .before .before .before .pre .0) (rw (c .sent .ensures HeaderPut.None))))

@@ -7,46 +7,32 @@ use Rattle.sending.proofs.Laws.{still, unheard}
 use borrow.Author.Needs.{needs}
 use Rattle.sending.proofs.send_start.Statement.{statement}
 use Rattle.sending.proofs.send_start.Tie as tie
-use Rattle.sending.proofs.send_start.Reads as reads
-use Rattle.sending.proofs.send_start.Lts as lts
-use Rattle.sending.proofs.emit.Reads as emit-reads
-use Rattle.sending.proofs.is_free.Reads as is-free-reads
-use Rattle.sending.proofs.waits.Reads as waits-reads
 
--- src/lib.rt:182:8
 is-free-requires : tie.Need-is-free-requires
 is-free-requires c κs = search needs
 
--- src/lib.rt:183:9
 emit-requires : tie.Need-emit-requires
 emit-requires c κs = search needs
 
--- src/lib.rt:183:9
 same-length : tie.Need-same-length
 same-length c = search needs
 
--- src/lib.rt:183:9
 same-length-2 : tie.Need-same-length-2
 same-length-2 c = search needs
 
--- src/lib.rt:183:9
 same-length-3 : tie.Need-same-length-3
 same-length-3 c = search needs
 
--- src/lib.rt:183:9
 returns : tie.Need-returns
 unfolding startStep
 returns c = λ e. simp (sym (c .before .before .before .before .before .before .before .before .before .before .before .is-free .ensures) ∙ c .before .before .before .before .before .before .before .before .before .before .if1 .taken) (unheard e (c .before .before .before .before .before .before .emit .ensures false))
 
--- src/lib.rt:185:5
 waits-requires : tie.Need-waits-requires
 waits-requires c κs = search needs
 
--- src/lib.rt:176:1
 same-length-4 : tie.Need-same-length-4
 same-length-4 c = search needs
 
--- src/lib.rt:176:1
 returns-2 : tie.Need-returns-2
 unfolding startStep pointBy
 returns-2 c = λ e. simp (sym (c .before .before .is-free .ensures) ∙ c .before .if1 .left) (unheard e (still (c .before .before .before .before .before .before .before .pre .1 .0) (c .before .before .before .before .before .before .before .pre .0) (rw (c .waits .ensures HeaderPut.None))))

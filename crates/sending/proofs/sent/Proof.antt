@@ -2,15 +2,10 @@ use Rattle.sending.specs.Sending.{nextBy}
 use borrow.Author.Needs.{needs}
 use Rattle.sending.proofs.sent.Statement.{statement}
 use Rattle.sending.proofs.sent.Tie as tie
-use Rattle.sending.proofs.sent.Reads as reads
-use Rattle.sending.proofs.sent.Lts as lts
-use Rattle.sending.proofs.ended.Reads as ended-reads
 
--- src/lib.rt:127:5
 ended-requires : tie.Need-ended-requires
 ended-requires c κs = search needs
 
--- src/lib.rt:124:1
 returns : tie.Need-returns
 unfolding nextBy
 returns c = λ h. rw (c .ended .ensures .0)

@@ -2,32 +2,22 @@ use Rattle.sending.proofs.Laws.{heard}
 use borrow.Author.Needs.{needs}
 use Rattle.sending.proofs.stall_event.Statement.{statement}
 use Rattle.sending.proofs.stall_event.Tie as tie
-use Rattle.sending.proofs.stall_event.Reads as reads
-use Rattle.sending.proofs.stall_event.Lts as lts
-use Rattle.arriving.proofs.handle_async_event.Reads as handle-async-event-reads
-use Rattle.sending.proofs.test.Reads as test-reads
 
--- src/lib.rt:224:5
 handle-async-event-requires : tie.Need-handle-async-event-requires
 handle-async-event-requires c κs = search needs
 
--- src/lib.rt:225:5
 test-requires : tie.Need-test-requires
 test-requires c κs = search needs
 
--- src/lib.rt:210:1
 same-length : tie.Need-same-length
 same-length c = search needs
 
--- src/lib.rt:210:1
 same-length-2 : tie.Need-same-length-2
 same-length-2 c = search needs
 
--- src/lib.rt:210:1
 same-length-3 : tie.Need-same-length-3
 same-length-3 c = search needs
 
--- src/lib.rt:210:1
 returns : tie.Need-returns
 returns c = λ e g. rw g (heard _ _ _ _ (c .before .before .before .before .before .before .before .before .before .before .before .before .before .before .handle-async-event .ensures .0) (c .before .before .before .before .before .before .before .before .before .before .before .before .before .before .handle-async-event .ensures .1) (c .before .before .before .before .before .before .test .ensures))
 

@@ -10,32 +10,22 @@ use Rattle.sending.proofs.Laws.{moved}
 use borrow.Author.Needs.{needs}
 use Rattle.sending.proofs.stall_poll.Statement.{statement}
 use Rattle.sending.proofs.stall_poll.Tie as tie
-use Rattle.sending.proofs.stall_poll.Reads as reads
-use Rattle.sending.proofs.stall_poll.Lts as lts
-use Rattle.receive.proofs.polled.poll_device.Reads as poll-device-reads
-use Rattle.sending.proofs.stall_next.Reads as stall-next-reads
 
--- src/lib.rt:273:9
 poll-device-requires : tie.Need-poll-device-requires
 poll-device-requires c κs = search needs
 
--- src/lib.rt:274:5
 stall-next-requires : tie.Need-stall-next-requires
 stall-next-requires c κs = search needs
 
--- src/lib.rt:259:1
 same-length : tie.Need-same-length
 same-length c = search needs
 
--- src/lib.rt:259:1
 same-length-2 : tie.Need-same-length-2
 same-length-2 c = search needs
 
--- src/lib.rt:259:1
 same-length-3 : tie.Need-same-length-3
 same-length-3 c = search needs
 
--- src/lib.rt:259:1
 returns : tie.Need-returns
 unfolding stallPoll
 returns c = let b = c .before .before .before .before .before .before .before .before .before .before .before .before .before .before .before .before .before .before .args .buf .now in let t = sessionIn (c .before .before .before .before .before .before .before .before .before .before .before .before .before .before .before .before .before .before .args .s .now) .st .sdpcm in let p = pointOf (c .before .before .before .before .before .before .before .before .before .before .before .before .before .before .before .before .before .before .args .q) in let x = BusAnswer.Value (c .before .before .before .before .before .before .before .before .before .before .before .before .before .before .before .before .before .before .args .v) in let e = arrivalAt (pollOp p) b t .event in moved e (λ (s : State). stallNext s (c .before .before .before .before .before .before .before .before .before .before .before .before .before .before .before .before .before .before .args .out) (c .before .before .before .before .before .before .before .before .before .before .before .before .before .before .before .before .before .before .args .t0) e (polledAt t p x b .next)) (c .before .before .before .before .before .before .before .before .before .before .before .before .before .before .before .before .before .before .pre .1 .0) (c .before .before .before .before .before .before .before .before .before .before .before .before .before .before .before .before .before .before .pre .0) (c .before .before .before .before .before .before .before .before .before .before .before .before .poll-device .ensures .held) (rw (c .before .before .before .before .before .before .before .before .before .before .before .before .poll-device .ensures .next) at (c .before .before .before .before .before .before .stall-next .ensures e (rw (c .before .before .before .before .before .before .before .before .before .before .before .before .poll-device .ensures .next) (polled-tells t p x b))))

@@ -1,23 +1,14 @@
--- <<
 use Rattle.turning.proofs.Laws.{backed}
--- >>
 use borrow.Author.Needs.{needs}
 use Rattle.turning.proofs.back_end.Statement.{statement}
 use Rattle.turning.proofs.back_end.Tie as tie
-use Rattle.turning.proofs.back_end.Reads as reads
-use Rattle.turning.proofs.back_end.Lts as lts
-use Rattle.turning.proofs.back_kind.Reads as back-kind-reads
-use Rattle.run_end.proofs.no_failure.Reads as no-failure-reads
 
--- src/lib.rt:139:15
 back-kind-requires : tie.Need-back-kind-requires
 back-kind-requires c κs = search needs
 
--- src/lib.rt:141:18
 no-failure-requires : tie.Need-no-failure-requires
 no-failure-requires c κs = search needs
 
--- src/lib.rt:133:1
 returns : tie.Need-returns
 returns c = λ e on log b buf h. rw (c .before .back-kind .ensures, c .no-failure .ensures) (backed e on (c .before .before .args .a .back) log b buf (c .before .before .args .a .len) h)
 

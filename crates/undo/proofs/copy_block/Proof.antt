@@ -1,75 +1,53 @@
--- <<
 use Rattle.undo.proofs.Eight.{block-is}
--- >>
 use borrow.Author.Needs.{needs}
 use Rattle.undo.proofs.copy_block.Statement.{statement}
 use Rattle.undo.proofs.copy_block.Tie as tie
-use Rattle.undo.proofs.copy_block.Reads as reads
-use Rattle.undo.proofs.copy_block.Lts as lts
-use Rattle.undo.proofs.get_le64.Reads as get-le64-reads
-use Rattle.undo.proofs.put_le64.Reads as put-le64-reads
 
--- src/lib.rt:136:9
 get-le64-requires : tie.Need-get-le64-requires
 get-le64-requires c κs = search needs
 
--- src/lib.rt:137:27
 add-get-le64 : tie.Need-add-get-le64
 add-get-le64 c = search needs
 
--- src/lib.rt:137:9
 get-le64-requires-2 : tie.Need-get-le64-requires-2
 get-le64-requires-2 c κs = search needs
 
--- src/lib.rt:138:27
 add-get-le64-2 : tie.Need-add-get-le64-2
 add-get-le64-2 c = search needs
 
--- src/lib.rt:138:9
 get-le64-requires-3 : tie.Need-get-le64-requires-3
 get-le64-requires-3 c κs = search needs
 
--- src/lib.rt:139:27
 add-get-le64-3 : tie.Need-add-get-le64-3
 add-get-le64-3 c = search needs
 
--- src/lib.rt:139:9
 get-le64-requires-4 : tie.Need-get-le64-requires-4
 get-le64-requires-4 c κs = search needs
 
--- src/lib.rt:140:5
 put-le64-requires : tie.Need-put-le64-requires
 put-le64-requires c κs = search needs
 
--- src/lib.rt:141:19
 add-put-le64 : tie.Need-add-put-le64
 add-put-le64 c = search needs
 
--- src/lib.rt:141:5
 put-le64-requires-2 : tie.Need-put-le64-requires-2
 put-le64-requires-2 c κs = search needs
 
--- src/lib.rt:142:19
 add-put-le64-2 : tie.Need-add-put-le64-2
 add-put-le64-2 c = search needs
 
--- src/lib.rt:142:5
 put-le64-requires-3 : tie.Need-put-le64-requires-3
 put-le64-requires-3 c κs = search needs
 
--- src/lib.rt:143:19
 add-put-le64-3 : tie.Need-add-put-le64-3
 add-put-le64-3 c = search needs
 
--- src/lib.rt:143:5
 put-le64-requires-4 : tie.Need-put-le64-requires-4
 put-le64-requires-4 c κs = search needs
 
--- src/lib.rt:131:1
 same-length : tie.Need-same-length
 same-length c = search needs
 
--- src/lib.rt:131:1
 returns : tie.Need-returns
 returns c = block-is (c .before .before .before .before .before .before .before .before .before .before .before .before .before .before .before .before .before .before .before .before .before .before .args .src .now) (c .before .before .before .before .before .before .before .before .before .before .before .before .before .before .before .before .before .before .before .before .before .before .args .dst .now) (c .before .before .before .before .before .before .before .before .before .before .before .before .before .before .before .before .before .before .before .before .before .before .args .from) (c .before .before .before .before .before .before .before .before .before .before .before .before .before .before .before .before .before .before .before .before .before .before .args .to) (c .before .before .before .before .before .before .before .before .before .before .before .before .before .before .before .before .before .before .before .before .before .before .pre .1) (rw (c .before .before .before .before .before .before .before .before .before .before .before .before .before .before .before .before .before .before .before .get-le64 .ensures) at (c .before .before .before .before .before .before .before .before .before .before .before .before .before .before .put-le64 .ensures)) (rw (c .before .before .before .before .before .before .before .before .before .before .before .before .before .before .before .before .before .before .get-le642 .ensures) at (c .before .before .before .before .before .before .before .before .before .before .put-le642 .ensures)) (rw (c .before .before .before .before .before .before .before .before .before .before .before .before .before .before .before .before .before .get-le643 .ensures) at (c .before .before .before .before .before .before .put-le643 .ensures)) (rw (c .before .before .before .before .before .before .before .before .before .before .before .before .before .before .before .before .get-le644 .ensures) at (c .before .before .put-le644 .ensures))
 

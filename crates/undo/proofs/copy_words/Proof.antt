@@ -1,47 +1,33 @@
--- <<
 use Prim.Native.Nat.{_+_, _*_, _/_, _%_}
 use mathlib.Core.Path.{_≡_}
 use native.Mathlib.Omega.{arith}
 use lib.ListN.{take, drop}
 use Rattle.undo.proofs.Eight.{rest-is}
--- >>
 use borrow.Author.Needs.{needs}
 use Rattle.undo.proofs.copy_words.Statement.{statement}
 use Rattle.undo.proofs.copy_words.Tie as tie
-use Rattle.undo.proofs.copy_words.Reads as reads
-use Rattle.undo.proofs.copy_words.Lts as lts
-use Rattle.undo.proofs.copy_blocks.Reads as copy-blocks-reads
-use Rattle.undo.proofs.copy_eights.Reads as copy-eights-reads
 
--- src/lib.rt:109:5
 copy-blocks-requires : tie.Need-copy-blocks-requires
 copy-blocks-requires c κs = search needs
 
--- src/lib.rt:110:27
 mul-copy-eights : tie.Need-mul-copy-eights
 mul-copy-eights c = search needs
 
--- src/lib.rt:110:22
 add-copy-eights : tie.Need-add-copy-eights
 add-copy-eights c = search needs
 
--- src/lib.rt:110:47
 mul-copy-eights-2 : tie.Need-mul-copy-eights-2
 mul-copy-eights-2 c = search needs
 
--- src/lib.rt:110:40
 add-copy-eights-2 : tie.Need-add-copy-eights-2
 add-copy-eights-2 c = search needs
 
--- src/lib.rt:110:5
 copy-eights-requires : tie.Need-copy-eights-requires
 copy-eights-requires c κs = search needs
 
--- src/lib.rt:103:1
 same-length : tie.Need-same-length
 same-length c = search needs
 
--- src/lib.rt:103:1
 returns : tie.Need-returns
 returns c = rest-is (c .before .before .before .before .before .before .before .before .before .before .args .src .now) (c .before .before .before .before .before .before .before .before .before .before .args .dst .now) (c .before .before .before .before .before .before .before .before .before .before .args .from) (c .before .before .before .before .before .before .before .before .before .before .args .to) (c .before .before .before .before .before .before .before .before .before .before .args .n) (c .before .before .before .before .before .before .before .before .before .before .pre .1) (c .before .before .before .before .before .before .copy-blocks .ensures) (c .before .before .copy-eights .ensures)
 

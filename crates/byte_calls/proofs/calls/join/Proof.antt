@@ -1,99 +1,71 @@
--- <<
 use mathlib.Core.Path.{sym, _∙_}
 use Prim.Native.Nat.{_+_, _≤_}
 use lib.ListN.{length}
 use Rattle.definition.specs.Player.{argumentsOf}
 use Rattle.byte_calls.proofs.Arguments.{join-room}
 use Rattle.byte_calls.proofs.Plays.{played, refused, join-is, incomplete}
--- >>
 use borrow.Author.Needs.{needs}
 use Rattle.byte_calls.proofs.calls.join.Statement.{statement}
 use Rattle.byte_calls.proofs.calls.join.Tie as tie
-use Rattle.byte_calls.proofs.calls.join.Reads as reads
-use Rattle.byte_calls.proofs.calls.join.Lts as lts
-use Rattle.byte_calls.proofs.calls.join_fits.Reads as join-fits-reads
-use Rattle.run_end.proofs.error_end.Reads as error-end-reads
-use Rattle.runs.proofs.exchanges.run_join.Reads as run-join-reads
-use Rattle.words.proofs.get_le32.Reads as get-le32-reads
 
--- src/calls.rt:62:8
 join-fits-requires : tie.Need-join-fits-requires
 join-fits-requires c κs = search needs
 
--- src/calls.rt:63:17
 get-le32-requires : tie.Need-get-le32-requires
 get-le32-requires c κs = search needs
 
--- src/calls.rt:63:17
 cast-n : tie.Need-cast-n
 cast-n c = search needs
 
--- src/calls.rt:65:13
 get-le32-requires-2 : tie.Need-get-le32-requires-2
 get-le32-requires-2 c κs = search needs
 
--- src/calls.rt:66:22
 add-run-join : tie.Need-add-run-join
 add-run-join c = search needs
 
--- src/calls.rt:66:13
 sub-run-join : tie.Need-sub-run-join
 sub-run-join c = search needs
 
--- src/calls.rt:66:13
 part-run-join-start : tie.Need-part-run-join-start
 part-run-join-start c = search needs
 
--- src/calls.rt:66:13
 part-run-join-end : tie.Need-part-run-join-end
 part-run-join-end c = let h : 8 + c .before .get-le32 .result ≤ length (c .before .before .before .before .before .before .before .before .before .before .args .args .now) = join-room (c .before .before .before .before .before .before .before .before .before .before .args .args .now) _ (c .before .get-le32 .ensures) (sym (c .before .before .before .join-fits .ensures) ∙ c .before .before .if1 .taken) in search needs
 
--- src/calls.rt:67:19
 add-run-join-2 : tie.Need-add-run-join-2
 add-run-join-2 c = search needs
 
--- src/calls.rt:67:13
 sub-run-join-2 : tie.Need-sub-run-join-2
 sub-run-join-2 c = join-room (c .before .before .before .before .before .before .before .before .before .before .before .args .args .now) _ (c .before .before .get-le32 .ensures) (sym (c .before .before .before .before .join-fits .ensures) ∙ c .before .before .before .if1 .taken)
 
--- src/calls.rt:67:13
 part-run-join-start-2 : tie.Need-part-run-join-start-2
 part-run-join-start-2 c = join-room (c .before .before .before .before .before .before .before .before .before .before .before .args .args .now) _ (c .before .before .get-le32 .ensures) (sym (c .before .before .before .before .join-fits .ensures) ∙ c .before .before .before .if1 .taken)
 
--- src/calls.rt:67:13
 part-run-join-end-2 : tie.Need-part-run-join-end-2
 part-run-join-end-2 c = search needs
 
--- src/calls.rt:64:9
 run-join-requires : tie.Need-run-join-requires
 run-join-requires c κs = search needs
 
--- src/calls.rt:64:9
 same-length : tie.Need-same-length
 same-length c = search needs
 
--- src/calls.rt:64:9
 same-length-2 : tie.Need-same-length-2
 same-length-2 c = search needs
 
--- src/calls.rt:64:9
 same-length-3 : tie.Need-same-length-3
 same-length-3 c = search needs
 
--- src/calls.rt:64:9
 same-length-4 : tie.Need-same-length-4
 same-length-4 c = search needs
 
--- src/calls.rt:64:9
 returns : tie.Need-returns
 unfolding argumentsOf
 returns c = played _ (c .before .before .before .before .before .before .before .before .before .before .before .before .before .before .before .before .before .before .before .before .before .before .before .before .before .args .rec .now) (c .before .before .before .before .before .before .before .before .before .before .before .before .before .before .before .before .before .before .before .before .before .before .before .before .before .args .log .now) (c .before .before .before .before .before .before .before .before .before .before .before .before .before .before .before .before .before .before .before .before .before .before .before .before .before .args .s .now) (c .before .before .before .before .before .before .before .before .before .before .before .before .before .before .before .before .before .before .before .before .before .before .before .before .before .args .buf .now) (join-is (c .before .before .before .before .before .before .before .before .before .before .before .before .before .before .before .before .before .before .before .before .before .before .before .before .before .args .args .now) _ (c .before .before .before .before .before .before .before .before .before .before .before .before .before .before .before .before .get-le32 .ensures) (sym (c .before .before .before .before .before .before .before .before .before .before .before .before .before .before .before .before .before .before .join-fits .ensures) ∙ c .before .before .before .before .before .before .before .before .before .before .before .before .before .before .before .before .before .if1 .taken)) (rw (c .before .before .before .before .before .before .before .before .before .before .before .before .before .before .before .get-le322 .ensures) at (c .before .before .before .before .before .before .before .before .run-join .ensures))
 
--- src/calls.rt:75:5
 error-end-requires : tie.Need-error-end-requires
 error-end-requires c κs = search needs
 
--- src/calls.rt:49:1
 returns-2 : tie.Need-returns-2
 unfolding argumentsOf
 returns-2 c = refused (c .before .before .before .before .before .before .before .before .before .args .rec .now) (c .before .before .before .before .before .before .before .before .before .args .log .now) (c .before .before .before .before .before .before .before .before .before .args .s .now) (c .before .before .before .before .before .before .before .before .before .args .buf .now) _ (incomplete _ (sym (c .before .before .join-fits .ensures) ∙ c .before .if1 .left)) (c .before .before .before .before .before .before .before .before .before .pre .0) (c .error-end .ensures .0)

@@ -1,43 +1,29 @@
--- <<
 use Rattle.byte_calls.proofs.Plays.{played, refused, poll-is, poll-bad}
--- >>
 use borrow.Author.Needs.{needs}
 use Rattle.byte_calls.proofs.calls.poll.Statement.{statement}
 use Rattle.byte_calls.proofs.calls.poll.Tie as tie
-use Rattle.byte_calls.proofs.calls.poll.Reads as reads
-use Rattle.byte_calls.proofs.calls.poll.Lts as lts
-use Rattle.run_end.proofs.error_end.Reads as error-end-reads
-use Rattle.runs.proofs.polling.run_poll.Reads as run-poll-reads
 
--- src/calls.rt:152:9
 run-poll-requires : tie.Need-run-poll-requires
 run-poll-requires c κs = search needs
 
--- src/calls.rt:152:9
 same-length : tie.Need-same-length
 same-length c = search needs
 
--- src/calls.rt:152:9
 same-length-2 : tie.Need-same-length-2
 same-length-2 c = search needs
 
--- src/calls.rt:152:9
 same-length-3 : tie.Need-same-length-3
 same-length-3 c = search needs
 
--- src/calls.rt:152:9
 same-length-4 : tie.Need-same-length-4
 same-length-4 c = search needs
 
--- src/calls.rt:152:9
 returns : tie.Need-returns
 returns c = played _ (c .before .before .before .before .before .before .before .before .before .before .before .before .before .before .before .before .before .before .before .before .args .rec .now) (c .before .before .before .before .before .before .before .before .before .before .before .before .before .before .before .before .before .before .before .before .args .log .now) (c .before .before .before .before .before .before .before .before .before .before .before .before .before .before .before .before .before .before .before .before .args .s .now) (c .before .before .before .before .before .before .before .before .before .before .before .before .before .before .before .before .before .before .before .before .args .buf .now) (poll-is (c .before .before .before .before .before .before .before .before .before .before .before .before .before .before .before .before .before .before .before .before .args .args .now) (c .before .before .before .before .before .before .before .before .before .before .before .before .before .if1 .taken)) (c .before .before .before .before .before .before .before .before .run-poll .ensures)
 
--- src/calls.rt:154:5
 error-end-requires : tie.Need-error-end-requires
 error-end-requires c κs = search needs
 
--- src/calls.rt:138:1
 returns-2 : tie.Need-returns-2
 returns-2 c = refused (c .before .before .before .before .before .before .before .before .args .rec .now) (c .before .before .before .before .before .before .before .before .args .log .now) (c .before .before .before .before .before .before .before .before .args .s .now) (c .before .before .before .before .before .before .before .before .args .buf .now) _ (poll-bad (c .before .before .before .before .before .before .before .before .args .args .now) (c .before .if1 .left)) (c .before .before .before .before .before .before .before .before .pre .0) (c .error-end .ensures .0)
 

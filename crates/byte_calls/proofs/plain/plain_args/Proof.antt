@@ -1,54 +1,35 @@
--- <<
 use Rattle.byte_calls.proofs.Plays.{renumbered}
--- >>
 use borrow.Author.Needs.{needs}
 use Rattle.byte_calls.proofs.plain.plain_args.Statement.{statement}
 use Rattle.byte_calls.proofs.plain.plain_args.Tie as tie
-use Rattle.byte_calls.proofs.plain.plain_args.Reads as reads
-use Rattle.byte_calls.proofs.plain.plain_args.Lts as lts
-use Rattle.byte_calls.proofs.plain.bare.Reads as bare-reads
-use Rattle.byte_calls.proofs.plain.get.Reads as get-reads
-use Rattle.byte_calls.proofs.plain.gpio.Reads as gpio-reads
-use Rattle.byte_calls.proofs.plain.init.Reads as init-reads
-use Rattle.byte_calls.proofs.plain.set.Reads as set-reads
 
--- src/plain.rt:76:14
 init-requires : tie.Need-init-requires
 init-requires c κs = search needs
 
--- src/plain.rt:77:14
 gpio-requires : tie.Need-gpio-requires
 gpio-requires c κs = search needs
 
--- src/plain.rt:78:15
 get-requires : tie.Need-get-requires
 get-requires c κs = search needs
 
--- src/plain.rt:79:15
 set-requires : tie.Need-set-requires
 set-requires c κs = search needs
 
--- src/plain.rt:80:14
 bare-requires : tie.Need-bare-requires
 bare-requires c κs = search needs
 
--- src/plain.rt:71:1
 returns : tie.Need-returns
 returns c = renumbered (c .init .result) (c .before .before .before .args .call) 1 (c .before .before .before .args .args .now) (c .before .match .keys1) (c .init .ensures)
 
--- src/plain.rt:71:1
 returns-2 : tie.Need-returns-2
 returns-2 c = renumbered (c .gpio .result) (c .before .before .before .args .call) 9 (c .before .before .before .args .args .now) (c .before .match .keys2) (c .gpio .ensures)
 
--- src/plain.rt:71:1
 returns-3 : tie.Need-returns-3
 returns-3 c = renumbered (c .get .result) (c .before .before .before .args .call) 11 (c .before .before .before .args .args .now) (c .before .match .keys3) (c .get .ensures)
 
--- src/plain.rt:71:1
 returns-4 : tie.Need-returns-4
 returns-4 c = renumbered (c .set .result) (c .before .before .before .args .call) 12 (c .before .before .before .args .args .now) (c .before .match .keys4) (c .set .ensures)
 
--- src/plain.rt:71:1
 returns-5 : tie.Need-returns-5
 returns-5 c = search needs
 

@@ -1,29 +1,20 @@
--- <<
 use mathlib.Core.Path.{refl}
 use Rattle.jobs.specs.Jobs.{callOf}
 use Rattle.starting.specs.Starting.{isPoll}
--- >>
 use borrow.Author.Needs.{needs}
 use Rattle.cyw43.proofs.calls.wifi_disconnect.Statement.{statement}
 use Rattle.cyw43.proofs.calls.wifi_disconnect.Tie as tie
-use Rattle.cyw43.proofs.calls.wifi_disconnect.Reads as reads
-use Rattle.cyw43.proofs.calls.wifi_disconnect.Lts as lts
-use Rattle.call.proofs.plain.Reads as plain-reads
 
--- src/calls.rt:59:5
 plain-requires : tie.Need-plain-requires
 unfolding isPoll
 plain-requires c κs = refl
 
--- src/calls.rt:50:1
 same-length : tie.Need-same-length
 same-length c = search needs
 
--- src/calls.rt:50:1
 same-length-2 : tie.Need-same-length-2
 same-length-2 c = search needs
 
--- src/calls.rt:50:1
 returns : tie.Need-returns
 unfolding callOf
 returns c = c .before .before .before .before .plain .ensures

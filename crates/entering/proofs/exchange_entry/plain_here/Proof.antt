@@ -1,47 +1,33 @@
--- <<
 use mathlib.Core.List.{[]}
 use Rattle.jobs.specs.Jobs.{callOf}
 use Rattle.definition.specs.Run.{called}
 use Rattle.turning.specs.Turning.{worldIn}
 use Rattle.entering.proofs.Laws.{handed-end}
--- >>
 use borrow.Author.Needs.{needs}
 use Rattle.entering.proofs.exchange_entry.plain_here.Statement.{statement}
 use Rattle.entering.proofs.exchange_entry.plain_here.Tie as tie
-use Rattle.entering.proofs.exchange_entry.plain_here.Reads as reads
-use Rattle.entering.proofs.exchange_entry.plain_here.Lts as lts
-use Rattle.entering.proofs.hand.Reads as hand-reads
-use Rattle.runs.proofs.exchanges.run_plain.Reads as run-plain-reads
 
--- src/exchange_entry.rt:37:9
 run-plain-requires : tie.Need-run-plain-requires
 run-plain-requires c κs = search needs
 
--- src/exchange_entry.rt:38:5
 hand-requires : tie.Need-hand-requires
 hand-requires c κs = search needs
 
--- src/exchange_entry.rt:22:1
 same-length : tie.Need-same-length
 same-length c = search needs
 
--- src/exchange_entry.rt:22:1
 same-length-2 : tie.Need-same-length-2
 same-length-2 c = search needs
 
--- src/exchange_entry.rt:22:1
 same-length-3 : tie.Need-same-length-3
 same-length-3 c = search needs
 
--- src/exchange_entry.rt:22:1
 same-length-4 : tie.Need-same-length-4
 same-length-4 c = search needs
 
--- src/exchange_entry.rt:22:1
 same-length-5 : tie.Need-same-length-5
 same-length-5 c = search needs
 
--- src/exchange_entry.rt:22:1
 returns : tie.Need-returns
 returns c = handed-end (called (callOf (c .before .before .before .before .before .before .before .before .before .before .before .before .before .before .before .before .before .before .before .before .before .before .before .args .c)) (worldIn (c .before .before .before .before .before .before .before .before .before .before .before .before .before .before .before .before .before .before .before .before .before .before .before .args .session .now) (c .before .before .before .before .before .before .before .before .before .before .before .before .before .before .before .before .before .before .before .before .before .before .before .args .buf .now)) (c .before .before .before .before .before .before .before .before .before .before .before .before .before .before .before .before .before .before .before .before .before .before .before .args .rec .now) (c .before .before .before .before .before .before .before .before .before .before .before .before .before .before .before .before .before .before .before .before .before .before .before .args .log .now) []) (c .before .before .before .before .before .before .before .before .before .before .before .before .run-plain .result) (c .before .before .before .before .before .before .before .before .before .before .before .before .before .before .before .before .before .before .before .before .before .before .before .args .result .now) _ _ _ _ _ (c .before .before .before .before .before .before .before .before .before .before .before .before .run-plain .ensures) (c .before .before .hand .ensures .0) (c .before .before .hand .ensures .1)
 

@@ -1,47 +1,33 @@
--- <<
 use mathlib.Core.List.{[]}
 use Rattle.definition.specs.Calls.{Call}
 use Rattle.definition.specs.Run.{called}
 use Rattle.turning.specs.Turning.{worldIn}
 use Rattle.entering.proofs.Laws.{handed-end}
--- >>
 use borrow.Author.Needs.{needs}
 use Rattle.entering.proofs.exchange_entry.variable_here.Statement.{statement}
 use Rattle.entering.proofs.exchange_entry.variable_here.Tie as tie
-use Rattle.entering.proofs.exchange_entry.variable_here.Reads as reads
-use Rattle.entering.proofs.exchange_entry.variable_here.Lts as lts
-use Rattle.entering.proofs.hand.Reads as hand-reads
-use Rattle.runs.proofs.exchanges.run_variable.Reads as run-variable-reads
 
--- src/exchange_entry.rt:126:9
 run-variable-requires : tie.Need-run-variable-requires
 run-variable-requires c κs = search needs
 
--- src/exchange_entry.rt:127:5
 hand-requires : tie.Need-hand-requires
 hand-requires c κs = search needs
 
--- src/exchange_entry.rt:110:1
 same-length : tie.Need-same-length
 same-length c = search needs
 
--- src/exchange_entry.rt:110:1
 same-length-2 : tie.Need-same-length-2
 same-length-2 c = search needs
 
--- src/exchange_entry.rt:110:1
 same-length-3 : tie.Need-same-length-3
 same-length-3 c = search needs
 
--- src/exchange_entry.rt:110:1
 same-length-4 : tie.Need-same-length-4
 same-length-4 c = search needs
 
--- src/exchange_entry.rt:110:1
 same-length-5 : tie.Need-same-length-5
 same-length-5 c = search needs
 
--- src/exchange_entry.rt:110:1
 returns : tie.Need-returns
 returns c = handed-end (called (Call.writeIovar (c .before .before .before .before .before .before .before .before .before .before .before .before .before .before .before .before .before .before .before .before .before .before .before .before .before .args .interface) (c .before .before .before .before .before .before .before .before .before .before .before .before .before .before .before .before .before .before .before .before .before .before .before .before .before .args .name .now) (c .before .before .before .before .before .before .before .before .before .before .before .before .before .before .before .before .before .before .before .before .before .before .before .before .before .args .bytes .now)) (worldIn (c .before .before .before .before .before .before .before .before .before .before .before .before .before .before .before .before .before .before .before .before .before .before .before .before .before .args .session .now) (c .before .before .before .before .before .before .before .before .before .before .before .before .before .before .before .before .before .before .before .before .before .before .before .before .before .args .buf .now)) (c .before .before .before .before .before .before .before .before .before .before .before .before .before .before .before .before .before .before .before .before .before .before .before .before .before .args .rec .now) (c .before .before .before .before .before .before .before .before .before .before .before .before .before .before .before .before .before .before .before .before .before .before .before .before .before .args .log .now) []) (c .before .before .before .before .before .before .before .before .before .before .before .before .run-variable .result) (c .before .before .before .before .before .before .before .before .before .before .before .before .before .before .before .before .before .before .before .before .before .before .before .before .before .args .result .now) _ _ _ _ _ (c .before .before .before .before .before .before .before .before .before .before .before .before .run-variable .ensures) (c .before .before .hand .ensures .0) (c .before .before .hand .ensures .1)
 

@@ -1,56 +1,40 @@
--- <<
 use mathlib.Core.Path.{refl, sym, _∙_}
 use borrow.Author.Tests.{eq-eqb, ne-eqb}
 use Rattle.definition.specs.Event.{scanAfter}
 use Rattle.handling.specs.Handle.{stateAfter}
 use Rattle.receive.specs.Receive.{eventWith}
 use Rattle.receive.proofs.Laws.{unheeded, not-69}
--- >>
 use borrow.Author.Needs.{needs}
 use Rattle.receive.proofs.event.handle_numbers.Statement.{statement}
 use Rattle.receive.proofs.event.handle_numbers.Tie as tie
-use Rattle.receive.proofs.event.handle_numbers.Reads as reads
-use Rattle.receive.proofs.event.handle_numbers.Lts as lts
-use Rattle.places.proofs.write.put_marks.Reads as put-marks-reads
-use Rattle.receive.proofs.event.handle_link.Reads as handle-link-reads
-use Rattle.receive.proofs.event.is_link.Reads as is-link-reads
 
--- src/event.rt:145:8
 is-link-requires : tie.Need-is-link-requires
 is-link-requires c κs = search needs
 
--- src/event.rt:146:9
 handle-link-requires : tie.Need-handle-link-requires
 handle-link-requires c κs = search needs
 
--- src/event.rt:147:9
 same-length : tie.Need-same-length
 same-length c = search needs
 
--- src/event.rt:147:9
 returns : tie.Need-returns
 unfolding stateAfter scanAfter
 returns c = λ x. rw (not-69 (c .before .before .before .before .before .before .before .args .n .«event_type») (sym (c .before .before .before .before .before .is-link .ensures) ∙ c .before .before .before .before .if1 .taken)) (c .before .before .handle-link .ensures x)
 
--- src/event.rt:150:9
 returns-2 : tie.Need-returns-2
 unfolding stateAfter scanAfter
 returns-2 c = λ x. rw (unheeded (eventWith (c .before .before .before .before .args .n) x) _ (sym (c .before .before .is-link .ensures) ∙ c .before .if1 .left), ne-eqb _ _ (c .if2 .taken)) (record { known = c .before .before .before .before .pre; back = refl })
 
--- src/event.rt:153:9
 put-marks-requires : tie.Need-put-marks-requires
 put-marks-requires c κs = search needs
 
--- src/event.rt:140:1
 same-length-2 : tie.Need-same-length-2
 same-length-2 c = search needs
 
--- src/event.rt:140:1
 returns-3 : tie.Need-returns-3
 unfolding stateAfter scanAfter
 returns-3 c = λ x. rw (unheeded (eventWith (c .before .before .before .before .before .before .before .before .before .before .args .n) x) _ (sym (c .before .before .before .before .before .before .before .before .is-link .ensures) ∙ c .before .before .before .before .before .before .before .if1 .left), eq-eqb _ _ (c .before .before .before .before .before .before .if2 .left), eq-eqb _ _ (c .before .before .before .before .if3 .taken)) (c .before .before .put-marks .ensures)
 
--- src/event.rt:140:1
 returns-4 : tie.Need-returns-4
 unfolding stateAfter scanAfter
 returns-4 c = λ x. rw (unheeded (eventWith (c .before .before .before .before .before .before .args .n) x) _ (sym (c .before .before .before .before .is-link .ensures) ∙ c .before .before .before .if1 .left), eq-eqb _ _ (c .before .before .if2 .left), ne-eqb _ _ (c .if3 .left)) (record { known = c .before .before .before .before .before .before .pre; back = refl })

@@ -1,27 +1,18 @@
--- <<
 use mathlib.Core.Path.{sym, ap, _∙_}
 use Rattle.wlan.specs.Outcome.{valueOf}
 use Rattle.state_bytes.proofs.Laws.{failure-back}
 use Rattle.run_end.specs.RunEnd as to
 use Rattle.run_end.proofs.Laws.{outcome-back, small-back}
--- >>
 use borrow.Author.Needs.{needs}
 use Rattle.run_end.proofs.outcome.outcome_of.Statement.{statement}
 use Rattle.run_end.proofs.outcome.outcome_of.Tie as tie
-use Rattle.run_end.proofs.outcome.outcome_of.Reads as reads
-use Rattle.run_end.proofs.outcome.outcome_of.Lts as lts
-use Rattle.run_end.proofs.outcome.outcome_by.Reads as outcome-by-reads
-use Rattle.state_bytes.proofs.parts.failure_of.Reads as failure-of-reads
 
--- src/outcome.rt:90:28
 failure-of-requires : tie.Need-failure-of-requires
 failure-of-requires c κs = search needs
 
--- src/outcome.rt:90:5
 outcome-by-requires : tie.Need-outcome-by-requires
 outcome-by-requires c κs = search needs
 
--- src/outcome.rt:85:1
 returns : tie.Need-returns
 returns c = λ o t. rw (t .kind, t .value, c .before .failure-of .ensures, t .failure, failure-back (to.failedOf o)) at (c .outcome-by .ensures (rw (t .kind, t .value) (small-back o (t .fits)))) ∙ outcome-back o
 

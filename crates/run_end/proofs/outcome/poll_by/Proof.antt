@@ -1,30 +1,21 @@
--- <<
 use mathlib.Core.Path.{refl, _∙_}
 use borrow.Author.Tests.{eq-eqb, ne-eqb}
--- >>
 use borrow.Author.Needs.{needs}
 use Rattle.run_end.proofs.outcome.poll_by.Statement.{statement}
 use Rattle.run_end.proofs.outcome.poll_by.Tie as tie
-use Rattle.run_end.proofs.outcome.poll_by.Reads as reads
-use Rattle.run_end.proofs.outcome.poll_by.Lts as lts
 
--- src/outcome.rt:39:16
 enum-told : tie.Need-enum-told
 enum-told c = search needs
 
--- src/outcome.rt:40:17
 returns : tie.Need-returns
 returns c = rw (c .before .enum-told .given .1, eq-eqb _ _ (c .if1 .taken)) refl
 
--- src/outcome.rt:44:30
 enum-known-f : tie.Need-enum-known-f
 enum-known-f c = search needs
 
--- src/outcome.rt:34:1
 returns-2 : tie.Need-returns-2
 returns-2 c = rw (c .before .enum-told .given .1, ne-eqb _ _ (c .if1 .left)) refl
 
--- src/outcome.rt:34:1
 returns-3 : tie.Need-returns-3
 returns-3 c = rw (c .before .f .given .1) refl
 

@@ -1,47 +1,32 @@
--- <<
 use mathlib.Core.Path.{_∙_}
 use native.Mathlib.Omega.{arith}
 use Rattle.session_bytes.proofs.Laws.{session-length}
 use Rattle.runs.proofs.Laws.{left}
--- >>
 use borrow.Author.Needs.{needs}
 use Rattle.runs.proofs.exchanges.run_join.Statement.{statement}
 use Rattle.runs.proofs.exchanges.run_join.Tie as tie
-use Rattle.runs.proofs.exchanges.run_join.Reads as reads
-use Rattle.runs.proofs.exchanges.run_join.Lts as lts
-use Rattle.runs.proofs.exchanges.join_run.Reads as join-run-reads
-use Rattle.turning.proofs.settle.Reads as settle-reads
-use Rattle.undo.proofs.keep_front.Reads as keep-front-reads
 
--- src/exchanges.rt:139:5
 keep-front-requires : tie.Need-keep-front-requires
 keep-front-requires c κs = (c .before .before .before .before .before .before .before .before .before .pre .1 .0, session-length (c .before .before .before .before .before .before .before .before .before .args .s .now) (c .before .before .before .before .before .before .before .before .before .pre .0))
 
--- src/exchanges.rt:140:9
 join-run-requires : tie.Need-join-run-requires
 join-run-requires c κs = search needs
 
--- src/exchanges.rt:141:5
 settle-requires : tie.Need-settle-requires
 settle-requires c κs = (c .before .before .before .before .before .before .before .before .before .before .before .join-run .ensures .kept .kept, (c .before .before .before .before .before .before .before .before .before .before .before .join-run .ensures .held, omega (arith, c .before .before .before .before .before .before .before .before .before .before .before .before .before .before .before .before .before .before .before .before .before .before .before .before .before .before .before .before .pre .1 .1)))
 
--- src/exchanges.rt:124:1
 same-length : tie.Need-same-length
 same-length c = search needs
 
--- src/exchanges.rt:124:1
 same-length-2 : tie.Need-same-length-2
 same-length-2 c = search needs
 
--- src/exchanges.rt:124:1
 same-length-3 : tie.Need-same-length-3
 same-length-3 c = search needs
 
--- src/exchanges.rt:124:1
 same-length-4 : tie.Need-same-length-4
 same-length-4 c = search needs
 
--- src/exchanges.rt:124:1
 returns : tie.Need-returns
 returns c = left (c .before .before .before .before .before .before .before .before .before .before .before .before .before .before .before .before .join-run .ensures .ends) (c .before .before .before .before .settle .ensures (c .before .before .before .before .before .before .before .before .before .before .before .before .before .before .before .before .before .before .before .before .before .before .before .before .before .before .before .before .before .before .before .before .before .args .s .now) _ (c .before .before .before .before .before .before .before .before .before .before .before .before .before .before .before .before .before .before .before .before .before .before .before .before .before .before .before .before .before .before .before .before .before .args .buf .now) _ (c .before .before .before .before .before .before .before .before .before .before .before .before .before .before .before .before .before .before .before .before .before .before .before .before .before .before .before .before .before .before .before .before .before .pre .0) (λ t. c .before .before .before .before .before .before .before .before .before .before .before .before .before .before .before .before .join-run .ensures .kept .session ∙ c .before .before .before .before .before .before .before .before .before .before .before .before .before .before .before .before .before .before .before .before .before .before .before .keep-front .ensures .3) (λ t. c .before .before .before .before .before .before .before .before .before .before .before .before .before .before .before .before .join-run .ensures .kept .buf ∙ c .before .before .before .before .before .before .before .before .before .before .before .before .before .before .before .before .before .before .before .before .before .before .before .keep-front .ensures .4 (c .before .before .before .before .before .before .before .before .before .before .before .before .before .before .before .before .before .before .before .before .before .before .before .before .before .before .before .before .before .before .before .before .before .args .buf .now)) (c .before .before .before .before .before .before .before .before .before .before .before .before .before .before .before .before .join-run .ensures .ends))
 

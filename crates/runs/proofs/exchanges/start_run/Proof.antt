@@ -1,4 +1,3 @@
--- <<
 use mathlib.Core.Path.{refl}
 use mathlib.Core.List.{[]}
 use lib.ListN.{drop}
@@ -7,67 +6,48 @@ use Rattle.effects.specs.Args.{argsOf}
 use Rattle.session_bytes.specs.Session.{sessionIn}
 use Rattle.starting.specs.Starting.{stepBy}
 use Rattle.runs.proofs.Laws.{done-ends, refused-ends}
--- >>
 use borrow.Author.Needs.{needs}
 use Rattle.runs.proofs.exchanges.start_run.Statement.{statement}
 use Rattle.runs.proofs.exchanges.start_run.Tie as tie
-use Rattle.runs.proofs.exchanges.start_run.Reads as reads
-use Rattle.runs.proofs.exchanges.start_run.Lts as lts
-use Rattle.exchange_call.proofs.exchange_run.Reads as exchange-run-reads
-use Rattle.run_end.proofs.done_end.Reads as done-end-reads
-use Rattle.run_end.proofs.error_end.Reads as error-end-reads
 
--- src/exchanges.rt:58:51
 enum-told : tie.Need-enum-told
 enum-told c = search needs
 
--- src/exchanges.rt:58:32
 exchange-run-requires : tie.Need-exchange-run-requires
 exchange-run-requires c κs = search needs
 
--- src/exchanges.rt:59:28
 enum-told-2 : tie.Need-enum-told-2
 enum-told-2 c = search needs
 
--- src/exchanges.rt:59:28
 done-end-requires : tie.Need-done-end-requires
 done-end-requires c κs = search needs
 
--- src/exchanges.rt:60:31
 enum-told-3 : tie.Need-enum-told-3
 enum-told-3 c = search needs
 
--- src/exchanges.rt:60:31
 error-end-requires : tie.Need-error-end-requires
 error-end-requires c κs = search needs
 
--- src/exchanges.rt:35:1
 same-length : tie.Need-same-length
 same-length c = search needs
 
--- src/exchanges.rt:35:1
 same-length-2 : tie.Need-same-length-2
 same-length-2 c = search needs
 
--- src/exchanges.rt:35:1
 same-length-3 : tie.Need-same-length-3
 same-length-3 c = search needs
 
--- src/exchanges.rt:35:1
 same-length-4 : tie.Need-same-length-4
 same-length-4 c = search needs
 
--- src/exchanges.rt:35:1
 returns : tie.Need-returns
 unfolding stepBy
 returns c = simp (c .before .before .before .before .before .before .before .before .before .before .before .before .before .enum-told .given .1) (c .before .before .before .before .before .before .before .before .exchange-run .ensures .0, (c .before .before .before .before .before .before .before .before .exchange-run .ensures .1 .0, c .before .before .before .before .before .before .before .before .exchange-run .ensures .1 .1))
 
--- src/exchanges.rt:35:1
 returns-2 : tie.Need-returns-2
 unfolding stepBy
 returns-2 c = (λ e. rw (c .before .enum-told2 .given .1) (done-ends (argsOf (c .before .before .before .before .before .before .before .before .before .before .before .args .x .job) (c .before .before .before .before .before .before .before .before .before .before .before .args .first .now) (c .before .before .before .before .before .before .before .before .before .before .before .args .second .now)) e (sessionIn (c .before .before .before .before .before .before .before .before .before .before .before .args .s .now) .st) (drop 0 (c .before .before .before .before .before .before .before .before .before .before .before .args .rec .now)) (c .before .before .before .before .before .before .before .before .before .before .before .args .log .now) (c .before .before .before .before .before .before .before .before .before .before .before .args .s .now) (c .before .before .before .before .before .before .before .before .before .before .before .args .buf .now) _ refl (c .done-end .ensures)), (c .before .before .before .before .before .before .before .before .before .before .before .pre .0, record { kept = c .before .before .before .before .before .before .before .before .before .before .before .pre .1 .0; session = refl; buf = refl }))
 
--- src/exchanges.rt:35:1
 returns-3 : tie.Need-returns-3
 unfolding stepBy
 returns-3 c = (λ e. rw (c .before .enum-told3 .given .1) (refused-ends (argsOf (c .before .before .before .before .before .before .before .before .before .before .before .args .x .job) (c .before .before .before .before .before .before .before .before .before .before .before .args .first .now) (c .before .before .before .before .before .before .before .before .before .before .before .args .second .now)) e (sessionIn (c .before .before .before .before .before .before .before .before .before .before .before .args .s .now) .st) (drop 0 (c .before .before .before .before .before .before .before .before .before .before .before .args .rec .now)) (c .before .before .before .before .before .before .before .before .before .before .before .args .log .now) (c .before .before .before .before .before .before .before .before .before .before .before .args .s .now) (c .before .before .before .before .before .before .before .before .before .before .before .args .buf .now) _ (c .before .before .before .before .before .before .before .before .before .before .before .args .x .error) refl (c .error-end .ensures .1) (c .error-end .ensures .0)), (c .before .before .before .before .before .before .before .before .before .before .before .pre .0, record { kept = c .before .before .before .before .before .before .before .before .before .before .before .pre .1 .0; session = refl; buf = refl }))

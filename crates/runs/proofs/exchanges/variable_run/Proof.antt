@@ -1,60 +1,42 @@
--- <<
 use native.Mathlib.Omega.{arith}
 use lib.ListN.{take, length-take}
 use Rattle.definition.specs.Calls.{Call}
 use Rattle.session_bytes.specs.Session.{sessionIn}
 use Rattle.runs.proofs.Laws.{start-runs, same-holds}
--- >>
 use borrow.Author.Needs.{needs}
 use Rattle.runs.proofs.exchanges.variable_run.Statement.{statement}
 use Rattle.runs.proofs.exchanges.variable_run.Tie as tie
-use Rattle.runs.proofs.exchanges.variable_run.Reads as reads
-use Rattle.runs.proofs.exchanges.variable_run.Lts as lts
-use Rattle.jobs.proofs.jobs.at_most.Reads as at-most-reads
-use Rattle.runs.proofs.exchanges.start_run.Reads as start-run-reads
-use Rattle.starting.proofs.bytes.variable_start.Reads as variable-start-reads
 
--- src/exchanges.rt:160:9
 at-most-requires : tie.Need-at-most-requires
 at-most-requires c κs = search needs
 
--- src/exchanges.rt:161:9
 at-most-requires-2 : tie.Need-at-most-requires-2
 at-most-requires-2 c κs = search needs
 
--- src/exchanges.rt:162:9
 variable-start-requires : tie.Need-variable-start-requires
 variable-start-requires c κs = search needs
 
--- src/exchanges.rt:163:42
 slice-aggregate-start-run : tie.Need-slice-aggregate-start-run
 slice-aggregate-start-run c = omega (arith, length-take (c .before .before .before .before .before .before .before .at-most .result) (c .before .before .before .before .before .before .before .before .before .before .before .before .before .before .before .args .name .now), c .before .before .before .before .before .before .before .at-most .ensures .1 .2)
 
--- src/exchanges.rt:163:54
 slice-aggregate-start-run-2 : tie.Need-slice-aggregate-start-run-2
 slice-aggregate-start-run-2 c = omega (arith, length-take (c .before .before .before .before .before .before .before .at-most2 .result) (c .before .before .before .before .before .before .before .before .before .before .before .before .before .before .before .before .args .bytes .now), c .before .before .before .before .before .before .before .at-most2 .ensures .1 .2)
 
--- src/exchanges.rt:163:5
 start-run-requires : tie.Need-start-run-requires
 start-run-requires c κs = (c .before .before .before .before .before .before .before .before .before .before .before .before .before .before .before .before .pre .0, (c .before .before .before .before .before .before .before .before .before .before .before .before .before .before .before .before .pre .1 .0, (c .before .before .before .before .before .before .before .before .before .before .before .before .before .before .before .before .pre .1 .1, omega (arith, length-take (c .before .before .before .before .before .before .before .before .at-most .result) (c .before .before .before .before .before .before .before .before .before .before .before .before .before .before .before .before .args .name .now), c .before .before .before .before .before .before .before .before .at-most .ensures .1 .1, length-take (c .before .before .before .before .before .before .before .at-most2 .result) (c .before .before .before .before .before .before .before .before .before .before .before .before .before .before .before .before .args .bytes .now), c .before .before .before .before .before .before .before .at-most2 .ensures .1 .1))))
 
--- src/exchanges.rt:145:1
 same-length : tie.Need-same-length
 same-length c = search needs
 
--- src/exchanges.rt:145:1
 same-length-2 : tie.Need-same-length-2
 same-length-2 c = search needs
 
--- src/exchanges.rt:145:1
 same-length-3 : tie.Need-same-length-3
 same-length-3 c = search needs
 
--- src/exchanges.rt:145:1
 same-length-4 : tie.Need-same-length-4
 same-length-4 c = search needs
 
--- src/exchanges.rt:145:1
 returns : tie.Need-returns
 returns c = start-runs (Call.writeIovar (c .before .before .before .before .before .before .before .before .before .before .before .before .before .before .before .before .before .before .before .before .before .before .before .before .before .args .interface) (c .before .before .before .before .before .before .before .before .before .before .before .before .before .before .before .before .before .before .before .before .before .before .before .before .before .args .name .now) (c .before .before .before .before .before .before .before .before .before .before .before .before .before .before .before .before .before .before .before .before .before .before .before .before .before .args .bytes .now)) (take (c .before .before .before .before .before .before .before .before .before .before .before .before .before .before .before .before .before .at-most .result) (c .before .before .before .before .before .before .before .before .before .before .before .before .before .before .before .before .before .before .before .before .before .before .before .before .before .args .name .now)) (take (c .before .before .before .before .before .before .before .before .before .before .before .before .before .before .before .before .at-most2 .result) (c .before .before .before .before .before .before .before .before .before .before .before .before .before .before .before .before .before .before .before .before .before .before .before .before .before .args .bytes .now)) (c .before .before .before .before .before .before .before .before .before .before .before .before .before .before .before .variable-start .result) (c .before .before .before .before .before .before .before .before .before .before .before .before .before .before .before .before .before .before .before .before .before .before .before .before .before .args .s .now) (c .before .before .before .before .before .before .before .before .before .before .before .before .before .before .before .before .before .before .before .before .before .before .before .before .before .args .s .now) _ (c .before .before .before .before .before .before .before .before .before .before .before .before .before .before .before .before .before .before .before .before .before .before .before .before .before .args .rec .now) (c .before .before .before .before .before .before .before .before .before .before .before .before .before .before .before .before .before .before .before .before .before .before .before .before .before .args .log .now) _ (c .before .before .before .before .before .before .before .before .before .before .before .before .before .before .before .before .before .before .before .before .before .before .before .before .before .args .undo .now) _ (c .before .before .before .before .before .before .before .before .before .before .before .before .before .before .before .before .before .before .before .before .before .before .before .before .before .args .buf .now) _ _ (c .before .before .before .before .before .before .before .before .before .before .before .before .before .before .before .before .before .before .before .before .before .before .before .before .before .pre .0) (c .before .before .before .before .before .before .before .before .before .before .before .before .before .before .before .before .before .before .before .before .before .before .before .before .before .pre .1 .0) (c .before .before .before .before .before .before .before .before .before .before .before .before .before .before .before .before .before .before .before .before .before .before .before .before .before .pre .1 .1) (rw (c .before .before .before .before .before .before .before .before .before .before .before .before .before .before .before .before .before .at-most .ensures .0, c .before .before .before .before .before .before .before .before .before .before .before .before .before .before .before .before .at-most2 .ensures .0) (c .before .before .before .before .before .before .before .before .before .before .before .before .before .before .before .variable-start .ensures (sessionIn (c .before .before .before .before .before .before .before .before .before .before .before .before .before .before .before .before .before .before .before .before .before .before .before .before .before .args .s .now) .st))) (same-holds (c .before .before .before .before .before .before .before .before .before .before .before .before .before .before .before .before .before .before .before .before .before .before .before .before .before .args .s .now) (c .before .before .before .before .before .before .before .before .before .before .before .before .before .before .before .before .before .before .before .before .before .before .before .before .before .pre .0)) (c .before .before .before .before .before .before .before .before .start-run .ensures .0) (c .before .before .before .before .before .before .before .before .start-run .ensures .1 .0) (c .before .before .before .before .before .before .before .before .start-run .ensures .1 .1)
 

@@ -1,65 +1,46 @@
--- <<
 use mathlib.Core.Path.{_≡_, refl, sym, _∙_}
 use native.Mathlib.Omega.{arith}
 use borrow.Author.Tests.{leb-true}
 use Rattle.definition.specs.Calls.{Call}
 use Rattle.turning.specs.Turning.{worldIn}
 use Rattle.runs.proofs.Laws as law
--- >>
 use borrow.Author.Needs.{needs}
 use Rattle.runs.proofs.frames.send_any.Statement.{statement}
 use Rattle.runs.proofs.frames.send_any.Tie as tie
-use Rattle.runs.proofs.frames.send_any.Reads as reads
-use Rattle.runs.proofs.frames.send_any.Lts as lts
-use Rattle.requests.proofs.numbers.is_interface.Reads as is-interface-reads
-use Rattle.run_end.proofs.error_end.Reads as error-end-reads
-use Rattle.send_call.proofs.send_run.Reads as send-run-reads
 
--- src/frames.rt:32:8
 is-interface-requires : tie.Need-is-interface-requires
 is-interface-requires c κs = search needs
 
--- src/frames.rt:34:29
 cast-send-run : tie.Need-cast-send-run
 cast-send-run c = omega (arith, leb-true (c .before .before .before .before .before .before .before .before .before .args .interface) 2 (sym (c .before .before .is-interface .ensures) ∙ c .before .if1 .taken))
 
--- src/frames.rt:34:13
 send-run-requires : tie.Need-send-run-requires
 send-run-requires c κs = (c .before .before .before .before .before .before .before .before .before .before .before .before .before .pre .0, (c .before .before .before .before .before .before .before .before .before .before .before .before .before .pre .1 .0, (c .before .before .before .before .before .before .before .before .before .before .before .before .before .pre .1 .1, c .before .before .before .before .if2 .taken)))
 
--- src/frames.rt:34:13
 same-length : tie.Need-same-length
 same-length c = search needs
 
--- src/frames.rt:34:13
 same-length-2 : tie.Need-same-length-2
 same-length-2 c = search needs
 
--- src/frames.rt:34:13
 same-length-3 : tie.Need-same-length-3
 same-length-3 c = search needs
 
--- src/frames.rt:34:13
 same-length-4 : tie.Need-same-length-4
 same-length-4 c = search needs
 
--- src/frames.rt:34:13
 returns : tie.Need-returns
 returns c = record { ends = rw (law.send-called (c .before .before .before .before .before .before .before .before .before .before .before .before .before .before .before .before .before .before .before .before .before .before .args .interface) (c .before .before .before .before .before .before .before .before .before .before .before .before .before .before .before .before .before .before .before .before .before .before .args .frame .now) (c .before .before .before .before .before .before .before .before .before .before .before .before .before .before .before .before .before .before .before .before .before .before .args .s .now) (c .before .before .before .before .before .before .before .before .before .before .before .before .before .before .before .before .before .before .before .before .before .before .args .rec .now) (c .before .before .before .before .before .before .before .before .before .before .before .before .before .before .before .before .before .before .before .before .before .before .args .log .now) (c .before .before .before .before .before .before .before .before .before .before .before .before .before .before .before .before .before .before .before .before .before .before .args .buf .now) (sym (c .before .before .before .before .before .before .before .before .before .before .before .before .before .before .before .is-interface .ensures) ∙ c .before .before .before .before .before .before .before .before .before .before .before .before .before .before .if1 .taken) (c .before .before .before .before .before .before .before .before .before .before .before .before .before .if2 .taken) (c .before .before .before .before .before .before .before .before .before .before .before .before .before .before .before .before .before .before .before .before .before .before .pre .1 .1)) at (c .before .before .before .before .before .before .before .before .send-run .ensures .0 (worldIn (c .before .before .before .before .before .before .before .before .before .before .before .before .before .before .before .before .before .before .before .before .before .before .args .s .now) (c .before .before .before .before .before .before .before .before .before .before .before .before .before .before .before .before .before .before .before .before .before .before .args .buf .now))); held = c .before .before .before .before .before .before .before .before .send-run .ensures .1 .0; kept = c .before .before .before .before .before .before .before .before .send-run .ensures .1 .1 }
 
--- src/frames.rt:36:9
 error-end-requires : tie.Need-error-end-requires
 error-end-requires c κs = search needs
 
--- src/frames.rt:36:9
 returns-2 : tie.Need-returns-2
 returns-2 c = law.refused-runs (Call.sendData (c .before .before .before .before .before .before .before .before .before .before .args .interface) (c .before .before .before .before .before .before .before .before .before .before .args .frame .now)) (c .before .before .before .before .before .before .before .before .before .before .args .s .now) (c .before .before .before .before .before .before .before .before .before .before .args .rec .now) (c .before .before .before .before .before .before .before .before .before .before .args .log .now) (c .before .before .before .before .before .before .before .before .before .before .args .undo .now) (c .before .before .before .before .before .before .before .before .before .before .args .buf .now) _ (c .before .before .before .before .before .before .before .before .before .before .pre .0) (c .before .before .before .before .before .before .before .before .before .before .pre .1 .0) (c .before .before .before .before .before .before .before .before .before .before .pre .1 .1) (λ w. law.long-frame (c .before .before .before .before .before .before .before .before .before .before .args .interface) (c .before .before .before .before .before .before .before .before .before .before .args .frame .now) w (sym (c .before .before .before .is-interface .ensures) ∙ c .before .before .if1 .taken) (c .before .if2 .left)) (c .error-end .ensures .0)
 
--- src/frames.rt:38:5
 error-end-requires-2 : tie.Need-error-end-requires-2
 error-end-requires-2 c κs = search needs
 
--- src/frames.rt:18:1
 returns-3 : tie.Need-returns-3
 returns-3 c = law.refused-runs (Call.sendData (c .before .before .before .before .before .before .before .before .before .args .interface) (c .before .before .before .before .before .before .before .before .before .args .frame .now)) (c .before .before .before .before .before .before .before .before .before .args .s .now) (c .before .before .before .before .before .before .before .before .before .args .rec .now) (c .before .before .before .before .before .before .before .before .before .args .log .now) (c .before .before .before .before .before .before .before .before .before .args .undo .now) (c .before .before .before .before .before .before .before .before .before .args .buf .now) _ (c .before .before .before .before .before .before .before .before .before .pre .0) (c .before .before .before .before .before .before .before .before .before .pre .1 .0) (c .before .before .before .before .before .before .before .before .before .pre .1 .1) (λ w. law.bad-interface (c .before .before .before .before .before .before .before .before .before .args .interface) (c .before .before .before .before .before .before .before .before .before .args .frame .now) w (sym (c .before .before .is-interface .ensures) ∙ c .before .if1 .left)) (c .error-end2 .ensures .0)
 

@@ -1,48 +1,33 @@
--- <<
 use mathlib.Core.Path.{_∙_}
 use native.Mathlib.Omega.{arith}
 use Rattle.session_bytes.proofs.Laws.{session-length}
 use Rattle.turning.specs.Turning.{worldIn}
 use Rattle.runs.proofs.Laws.{left, poll-called}
--- >>
 use borrow.Author.Needs.{needs}
 use Rattle.runs.proofs.polling.run_poll.Statement.{statement}
 use Rattle.runs.proofs.polling.run_poll.Tie as tie
-use Rattle.runs.proofs.polling.run_poll.Reads as reads
-use Rattle.runs.proofs.polling.run_poll.Lts as lts
-use Rattle.poll_call.proofs.poll_run.Reads as poll-run-reads
-use Rattle.turning.proofs.settle.Reads as settle-reads
-use Rattle.undo.proofs.keep_front.Reads as keep-front-reads
 
--- src/polling.rt:25:5
 keep-front-requires : tie.Need-keep-front-requires
 keep-front-requires c κs = (c .before .before .before .before .before .before .before .pre .1 .0, session-length (c .before .before .before .before .before .before .before .args .s .now) (c .before .before .before .before .before .before .before .pre .0))
 
--- src/polling.rt:26:9
 poll-run-requires : tie.Need-poll-run-requires
 poll-run-requires c κs = search needs
 
--- src/polling.rt:27:5
 settle-requires : tie.Need-settle-requires
 settle-requires c κs = (c .before .before .before .before .before .before .before .before .before .before .before .poll-run .ensures .1 .1 .kept, (c .before .before .before .before .before .before .before .before .before .before .before .poll-run .ensures .1 .0, omega (arith, c .before .before .before .before .before .before .before .before .before .before .before .before .before .before .before .before .before .before .before .before .before .before .before .before .before .before .pre .1 .1)))
 
--- src/polling.rt:13:1
 same-length : tie.Need-same-length
 same-length c = search needs
 
--- src/polling.rt:13:1
 same-length-2 : tie.Need-same-length-2
 same-length-2 c = search needs
 
--- src/polling.rt:13:1
 same-length-3 : tie.Need-same-length-3
 same-length-3 c = search needs
 
--- src/polling.rt:13:1
 same-length-4 : tie.Need-same-length-4
 same-length-4 c = search needs
 
--- src/polling.rt:13:1
 returns : tie.Need-returns
 returns c = let h = rw (poll-called (c .before .before .before .before .before .before .before .before .before .before .before .before .before .before .before .before .before .before .before .before .before .before .before .before .before .before .before .before .before .before .before .args .s .now) (c .before .before .before .before .before .before .before .before .before .before .before .before .before .before .before .before .before .before .before .before .before .before .before .before .before .before .before .before .before .before .before .args .rec .now) (c .before .before .before .before .before .before .before .before .before .before .before .before .before .before .before .before .before .before .before .before .before .before .before .before .before .before .before .before .before .before .before .args .log .now) (c .before .before .before .before .before .before .before .before .before .before .before .before .before .before .before .before .before .before .before .before .before .before .before .before .before .before .before .before .before .before .before .args .buf .now) (c .before .before .before .before .before .before .before .before .before .before .before .before .before .before .before .before .before .before .before .before .before .before .before .before .before .before .before .before .before .before .before .pre .1 .1)) at (c .before .before .before .before .before .before .before .before .before .before .before .before .before .before .before .before .poll-run .ensures .0 (worldIn (c .before .before .before .before .before .before .before .before .before .before .before .before .before .before .before .before .before .before .before .before .before .before .before .before .before .before .before .before .before .before .before .args .s .now) (c .before .before .before .before .before .before .before .before .before .before .before .before .before .before .before .before .before .before .before .before .before .before .before .before .before .before .before .before .before .before .before .args .buf .now))) in left h (c .before .before .before .before .settle .ensures (c .before .before .before .before .before .before .before .before .before .before .before .before .before .before .before .before .before .before .before .before .before .before .before .before .before .before .before .before .before .before .before .args .s .now) _ (c .before .before .before .before .before .before .before .before .before .before .before .before .before .before .before .before .before .before .before .before .before .before .before .before .before .before .before .before .before .before .before .args .buf .now) _ (c .before .before .before .before .before .before .before .before .before .before .before .before .before .before .before .before .before .before .before .before .before .before .before .before .before .before .before .before .before .before .before .pre .0) (λ t. c .before .before .before .before .before .before .before .before .before .before .before .before .before .before .before .before .poll-run .ensures .1 .1 .session ∙ c .before .before .before .before .before .before .before .before .before .before .before .before .before .before .before .before .before .before .before .before .before .before .before .keep-front .ensures .3) (λ t. c .before .before .before .before .before .before .before .before .before .before .before .before .before .before .before .before .poll-run .ensures .1 .1 .buf ∙ c .before .before .before .before .before .before .before .before .before .before .before .before .before .before .before .before .before .before .before .before .before .before .before .keep-front .ensures .4 (c .before .before .before .before .before .before .before .before .before .before .before .before .before .before .before .before .before .before .before .before .before .before .before .before .before .before .before .before .before .before .before .args .buf .now)) h)
 
