@@ -51,7 +51,7 @@ use Rattle.replying.specs.declared.IoctlNowKind.{IoctlNowKind}
 use Rattle.replying.specs.Replying as reply
 use Rattle.exchanging.specs.declared.now.CallNow.{CallNow}
 use Rattle.plans.specs.declared.Plan.{Plan}
-use Rattle.plans.specs.Plans as plans
+use Rattle.plans.specs.Plans as plan
 use Rattle.exchanging.specs.Exchanging as at
 use Rattle.run_end.specs.declared.RunEnd.{RunEnd}
 use Rattle.run_end.specs.RunEnd as ending
@@ -74,7 +74,7 @@ module _ (a : Args) (m : Modest a) (q : CallPoint) (y : Ans) (b₀ c : Bytes) (i
       ∙ go-unroll e (drop pos rec) log len (Kc a q y (turning.worldIn b b₀))
 
   -- an operation outside an exchange
-  plans : (f : Plan) → stepOf ≡ plans.planned f (a .job) (lensOf a) (sessionIn b .st) false Before.None → to.Plans a e (go e (drop pos rec) log len (Kc a q y (turning.worldIn b b₀))) rec f pos len log b c
+  plans : (f : Plan) → stepOf ≡ plan.planned f (a .job) (lensOf a) (sessionIn b .st) false Before.None → to.Plans a e (go e (drop pos rec) log len (Kc a q y (turning.worldIn b b₀))) rec f pos len log b c
   unfolding laidBefore listHeard
   plans f k =
       record {
@@ -243,13 +243,13 @@ begun-on {a} {g} {e} {rec} n {pos} {len} {log} {b} {buf} h =
     }
 
 pub planned-on : {a : Args} {g : Stage} {e : World} {x : End} {rec : List ℕ} (n : IoctlNow) {pos len : ℕ} {log b : List ℕ} {buf : Bytes} (c : Bytes) (f : Plan) → to.Answered a g e x rec n pos len log b buf
-    → ((l : Lens) (s : State) (h : Bool) (z : HeaderPut) → exchangeNext (a .job) l g s h (reply.nextOf n z) ≡ plans.planned f (a .job) l s h (plans.beforeIn (reply.nextOf n z)))
-    → ((z : HeaderPut) (c₀ : Bytes) → buf ≡ laidHeader (reply.headerIn (reply.nextOf n z)) c₀ → c ≡ laidBefore (plans.beforeIn (reply.nextOf n z)) c₀)
+    → ((l : Lens) (s : State) (h : Bool) (z : HeaderPut) → exchangeNext (a .job) l g s h (reply.nextOf n z) ≡ plan.planned f (a .job) l s h (plan.beforeIn (reply.nextOf n z)))
+    → ((z : HeaderPut) (c₀ : Bytes) → buf ≡ laidHeader (reply.headerIn (reply.nextOf n z)) c₀ → c ≡ laidBefore (plan.beforeIn (reply.nextOf n z)) c₀)
     → to.Plans a e x rec f pos len log b c
 planned-on {a} {g} {e} {x} {rec} n {pos} {len} {log} {b} {buf} c f k p q =
     record {
       heard = k .heard;
-      before = plans.beforeIn (reply.nextOf n (k .header));
+      before = plan.beforeIn (reply.nextOf n (k .header));
       event = k .event;
       under = k .under;
       list = k .list;
@@ -259,7 +259,7 @@ planned-on {a} {g} {e} {x} {rec} n {pos} {len} {log} {b} {buf} c f k p q =
     }
 
 pub act-on : {a : Args} {e : World} {x : End} {rec : List ℕ} {f : Plan} {pos len : ℕ} {log b : List ℕ} {buf : Bytes} (k : to.Plans a e x rec f pos len log b buf) {u v d : List ℕ} {c : Bytes} {n : CallNow}
-    → at.Acts a u v b d (k .under) buf c n (k .heard) (plans.planned f (a .job) (lensOf a) (sessionIn b .st) (k .heard) (k .before))
+    → at.Acts a u v b d (k .under) buf c n (k .heard) (plan.planned f (a .job) (lensOf a) (sessionIn b .st) (k .heard) (k .before))
     → go e (drop pos rec) log len (callTree a (at.nextOf n) (turning.worldIn d c)) ≡ x
 unfolding listAt
 act-on {a} {e} {x} {rec} {f} {pos} {len} {log} {b} {buf} k q =
@@ -279,7 +279,7 @@ module _ (x : Args) (m : Modest x) (q : CallPoint) {rec log₀ log : List ℕ} {
   Ends = to.Turns x e (go e (drop pos rec) log₀ len (callTree x (CallNext.Ask q) (turning.worldIn b buf))) rec r log b buf
 
   abbrev Follows : Plan → BusAnswer → Type 0
-  Follows f y = (z : Arrival) → callAnswer (x .job) (lensOf x) (sessionIn b .st) q y z ≡ plans.planned f (x .job) (lensOf x) (sessionIn b .st) false Before.None
+  Follows f y = (z : Arrival) → callAnswer (x .job) (lensOf x) (sessionIn b .st) q y z ≡ plan.planned f (x .job) (lensOf x) (sessionIn b .st) false Before.None
 
   abbrev Onward : Plan → Type 0
   Onward f = (r .on ≡ true) × (r .plan ≡ f) × (r .pos ≡ a .pos) × (r .end .len ≡ a .len)
@@ -316,15 +316,15 @@ pick-on : (b d : Bool) → pick b false d ≡ true → (b ≡ false) × (d ≡ t
 pick-on true d h = absurd (true≢false (sym h))
 pick-on false d h = (refl, h)
 
-is-asks : (k : IoctlNowKind) → plans.isAsk k ≡ true → k ≡ IoctlNowKind.Ask
+is-asks : (k : IoctlNowKind) → plan.isAsk k ≡ true → k ≡ IoctlNowKind.Ask
 is-asks IoctlNowKind.Ask h = refl
 is-asks IoctlNowKind.Done h = absurd (true≢false (sym h))
 is-asks IoctlNowKind.Refused h = absurd (true≢false (sym h))
 
 pub goes-on : (t : IoctlTurned) → to.onOf t ≡ true → (turning.isBack (t .asked .back) ≡ false) × (t .now .kind ≡ IoctlNowKind.Ask)
-goes-on t h = let k = pick-on (turning.isBack (t .asked .back)) (plans.isAsk (t .now .kind)) h in (k .0, is-asks (t .now .kind) (k .1))
+goes-on t h = let k = pick-on (turning.isBack (t .asked .back)) (plan.isAsk (t .now .kind)) h in (k .0, is-asks (t .now .kind) (k .1))
 
-pub is-over : (t : IoctlTurned) → to.onOf t ≡ false → turning.isBack (t .asked .back) ≡ false → plans.isAsk (t .now .kind) ≡ false
+pub is-over : (t : IoctlTurned) → to.onOf t ≡ false → turning.isBack (t .asked .back) ≡ false → plan.isAsk (t .now .kind) ≡ false
 is-over t h k = rw k at h
 
 -- what the loop began with comes to what it stands at now; n: how long the payload is
