@@ -1,2 +1,3 @@
-pub mod Arguments
+pub mod Fits
+pub mod Numbered
 pub mod Plays

@@ -1,11 +1,13 @@
 -- What comes of a call that was read.
-use Prim.Native.Nat.{ℕ}
+use Prim.Native.Nat.{ℕ, _+_, _-_, _≤_}
 use mathlib.Core.Path.{_≡_}
 use mathlib.Core.Bool.{false}
-use mathlib.Core.List.{List, []}
-use lib.ListN.{length, take, replicate}
+use mathlib.Core.List.{List}
+use lib.ListN.{length, take, drop, replicate}
+use Rattle.slices.specs.Le.{le32At}
 use Rattle.definition.specs.Bus.{Bytes}
 use Rattle.definition.specs.Prog.{World, world}
+use Rattle.definition.specs.Calls.{Call}
 use Rattle.definition.specs.Run.{End}
 use Rattle.definition.specs.Player.{Arguments, callWith, badArguments, argumentsOf, emptyLog, playedCall}
 use Rattle.jobs.specs.Jobs.{callOf}
@@ -14,29 +16,46 @@ use Rattle.run_end.specs.declared.RunEnd.{RunEnd}
 use Rattle.turning.specs.Turning.{worldIn}
 use Rattle.taking.specs.Taking.{Leaves}
 use Rattle.lines.specs.Input.{outputLength}
-use Rattle.byte_calls.specs.declared.plain.PlainArgs.{PlainArgs}
+use Rattle.byte_calls.specs.declared.arguments.CallArgs.{CallArgs}
 
--- ---- the calls without byte arguments
+-- ---- arguments; a: their bytes
 
--- not poll's number, nor that of a call with byte arguments or an output
-abbrev pub Plain : ℕ → Type 0
-Plain c = (c ≡ 3 → ⊥) × (c ≡ 6 → ⊥) × (c ≡ 7 → ⊥) × (c ≡ 8 → ⊥) × (c ≡ 13 → ⊥)
+-- from i up to j
+abbrev pub part : Bytes → ℕ → ℕ → Bytes
+part a i j = take (j - i) (drop i a)
 
--- nor that of a call with numbers
-abbrev pub Bare : ℕ → Type 0
-Bare c = Plain c × ((c ≡ 1 → ⊥) × (c ≡ 9 → ⊥) × (c ≡ 11 → ⊥) × (c ≡ 12 → ⊥))
+abbrev pub argumentsBy : Bytes → CallArgs → Arguments
+argumentsBy a (CallArgs.Plain c) = callWith (callOf c)
+argumentsBy a CallArgs.Poll = callWith Call.wifiPoll
+argumentsBy a (CallArgs.Join auth n) = callWith (Call.wifiConnect auth (part a 8 (8 + n)) (part a (8 + n) (length a)))
+argumentsBy a (CallArgs.Send interface) = callWith (Call.sendData interface (part a 4 (length a)))
+argumentsBy a CallArgs.Take = callWith (Call.getRxBuf (le32At a 0))
+argumentsBy a (CallArgs.Variable interface n) =
+    callWith (Call.writeIovar interface (part a 4 (4 + n)) (part a (5 + n) (length a)))
+argumentsBy a CallArgs.Bad = badArguments
 
-abbrev pub argumentsBy : PlainArgs → Arguments
-argumentsBy (PlainArgs.Is c) = callWith (callOf c)
-argumentsBy PlainArgs.Bad = badArguments
+abbrev pub outputBy : Bytes → CallArgs → ℕ
+outputBy a (CallArgs.Plain c) = 0
+outputBy a CallArgs.Poll = 0
+outputBy a (CallArgs.Join auth n) = 0
+outputBy a (CallArgs.Send interface) = 0
+outputBy a CallArgs.Take = le32At a 0
+outputBy a (CallArgs.Variable interface n) = 0
+outputBy a CallArgs.Bad = 0
 
-abbrev pub NoPoll : PlainArgs → Type 0
-NoPoll (PlainArgs.Is c) = isPoll c ≡ false
-NoPoll PlainArgs.Bad = Unit {0}
+-- poll is none of the others; the parts are there
+abbrev pub Room : Bytes → CallArgs → Type 0
+Room a (CallArgs.Plain c) = isPoll c ≡ false
+Room a CallArgs.Poll = Unit {0}
+Room a (CallArgs.Join auth n) = 8 + n ≤ length a
+Room a (CallArgs.Send interface) = 4 ≤ length a
+Room a CallArgs.Take = Unit {0}
+Room a (CallArgs.Variable interface n) = 5 + n ≤ length a
+Room a CallArgs.Bad = Unit {0}
 
--- r is what the arguments x are
-abbrev pub Reads : PlainArgs → Arguments → Type 0
-Reads r x = (x ≡ argumentsBy r) × NoPoll r
+-- r is the call c with these arguments
+abbrev pub Reads : ℕ → Bytes → CallArgs → Type 0
+Reads c a r = (argumentsOf c a ≡ argumentsBy a r) × (outputLength c a ≡ outputBy a r) × Room a r
 
 -- ---- a call that was played
 

@@ -1,24 +1,20 @@
 use mathlib.Core.Path.{refl}
+use Rattle.fresh_session.proofs.Laws.{fresh-put, fresh-back, fresh-known}
 use borrow.Author.Needs.{needs}
 use Rattle.fresh_session.proofs.put_fresh.Statement.{statement}
 use Rattle.fresh_session.proofs.put_fresh.Tie as tie
 
-fresh-requires : tie.Need-fresh-requires
-fresh-requires c κs = search needs
+fill-zero-requires : tie.Need-fill-zero-requires
+fill-zero-requires c κs = search needs
 
-empty-list-requires : tie.Need-empty-list-requires
-empty-list-requires c κs = search needs
-
-put-session-requires : tie.Need-put-session-requires
-put-session-requires c κs = search needs
+slice-write-s : tie.Need-slice-write-s
+slice-write-s c = search needs
 
 same-length : tie.Need-same-length
 same-length c = search needs
 
 returns : tie.Need-returns
-returns c = rw (c .before .before .put-session .ensures .0, c .before .before .before .before .before .fresh .ensures, c .before .before .before .before .empty-list .ensures) (refl, rw (c .before .before .before .before .before .fresh .ensures, c .before .before .before .before .empty-list .ensures) at (c .before .before .put-session .ensures .1))
+returns c = let e = fresh-put (c .before .before .before .before .before .args .s .now) (c .before .before .before .before .before .pre) (c .before .before .fill-zero .ensures) refl in (e, rw e (fresh-known, fresh-back))
 
 pub put-fresh-spec : {M : Type 1} → statement M
-put-fresh-spec =
-    tie.close
-    (tie.spec fresh-requires empty-list-requires put-session-requires same-length returns)
+put-fresh-spec = tie.close (tie.spec fill-zero-requires slice-write-s same-length returns)

@@ -1,6 +1,6 @@
 use native.Mathlib.Omega.{arith}
 use lib.ListN.{length-take}
-use Rattle.byte_calls.proofs.Arguments.{output-zeros}
+use Rattle.byte_calls.proofs.Fits.{output-zeros}
 use Rattle.byte_calls.proofs.Plays.{carried}
 use Rattle.session.proofs.Shows.{shows}
 use borrow.Author.Needs.{needs}

@@ -1,9 +1,9 @@
-use Rattle.byte_calls.proofs.Arguments.{join-complete}
+use Rattle.byte_calls.proofs.Fits.{join-complete}
 use lib.ListN.{length}
 use borrow.Author.Tests.{le-leb, lt-leb}
 use borrow.Author.Needs.{needs}
-use Rattle.byte_calls.proofs.calls.join_fits.Statement.{statement}
-use Rattle.byte_calls.proofs.calls.join_fits.Tie as tie
+use Rattle.byte_calls.proofs.arguments.join_fits.Statement.{statement}
+use Rattle.byte_calls.proofs.arguments.join_fits.Tie as tie
 
 get-le32-requires : tie.Need-get-le32-requires
 get-le32-requires c κs = search needs

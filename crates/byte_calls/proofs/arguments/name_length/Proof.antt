@@ -6,9 +6,9 @@ use native.Mathlib.Numerals.{add-one}
 use native.Mathlib.Omega.{arith}
 use lib.ListN.{length, drop}
 use Rattle.definition.specs.Player.{nameLength}
-use Rattle.byte_calls.proofs.Arguments.{name-more, name-zero, name-end}
-use Rattle.byte_calls.proofs.calls.name_length.Statement.{statement}
-use Rattle.byte_calls.proofs.calls.name_length.Tie as tie
+use Rattle.byte_calls.proofs.Fits.{name-more, name-zero, name-end}
+use Rattle.byte_calls.proofs.arguments.name_length.Statement.{statement}
+use Rattle.byte_calls.proofs.arguments.name_length.Tie as tie
 
 abbrev Inv-loop : tie.InvT-loop
 Inv-loop s i₀ i = (i ≤ length s) × (nameLength s ≡ i + nameLength (drop i s))

@@ -1,7 +1,7 @@
-use Rattle.byte_calls.proofs.Plays.{set-is, set-bad}
+use Rattle.byte_calls.proofs.Numbered.{set-is, set-bad}
 use borrow.Author.Needs.{needs}
-use Rattle.byte_calls.proofs.plain.set.Statement.{statement}
-use Rattle.byte_calls.proofs.plain.set.Tie as tie
+use Rattle.byte_calls.proofs.arguments.set.Statement.{statement}
+use Rattle.byte_calls.proofs.arguments.set.Tie as tie
 
 get-le32-requires : tie.Need-get-le32-requires
 get-le32-requires c κs = search needs

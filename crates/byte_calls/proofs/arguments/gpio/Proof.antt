@@ -1,7 +1,7 @@
-use Rattle.byte_calls.proofs.Plays.{gpio-is, gpio-bad}
+use Rattle.byte_calls.proofs.Numbered.{gpio-is, gpio-bad}
 use borrow.Author.Needs.{needs}
-use Rattle.byte_calls.proofs.plain.gpio.Statement.{statement}
-use Rattle.byte_calls.proofs.plain.gpio.Tie as tie
+use Rattle.byte_calls.proofs.arguments.gpio.Statement.{statement}
+use Rattle.byte_calls.proofs.arguments.gpio.Tie as tie
 
 get-le32-requires : tie.Need-get-le32-requires
 get-le32-requires c κs = search needs

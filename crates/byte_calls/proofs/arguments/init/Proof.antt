@@ -1,7 +1,7 @@
-use Rattle.byte_calls.proofs.Plays.{init-is, init-bad}
+use Rattle.byte_calls.proofs.Numbered.{init-is, init-bad}
 use borrow.Author.Needs.{needs}
-use Rattle.byte_calls.proofs.plain.init.Statement.{statement}
-use Rattle.byte_calls.proofs.plain.init.Tie as tie
+use Rattle.byte_calls.proofs.arguments.init.Statement.{statement}
+use Rattle.byte_calls.proofs.arguments.init.Tie as tie
 
 get-le32-requires : tie.Need-get-le32-requires
 get-le32-requires c κs = search needs

@@ -1,7 +1,7 @@
-use Rattle.byte_calls.proofs.Plays.{get-is, get-bad}
+use Rattle.byte_calls.proofs.Numbered.{get-is, get-bad}
 use borrow.Author.Needs.{needs}
-use Rattle.byte_calls.proofs.plain.get.Statement.{statement}
-use Rattle.byte_calls.proofs.plain.get.Tie as tie
+use Rattle.byte_calls.proofs.arguments.get.Statement.{statement}
+use Rattle.byte_calls.proofs.arguments.get.Tie as tie
 
 get-le32-requires : tie.Need-get-le32-requires
 get-le32-requires c κs = search needs

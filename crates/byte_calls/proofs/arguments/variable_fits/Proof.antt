@@ -1,10 +1,10 @@
-use Rattle.byte_calls.proofs.Arguments.{variable-complete}
+use Rattle.byte_calls.proofs.Fits.{variable-complete}
 use lib.ListN.{length, length-drop}
 use borrow.Author.Tests.{le-leb, lt-leb}
 use Rattle.slices.proofs.Over.{part-rest}
 use borrow.Author.Needs.{needs}
-use Rattle.byte_calls.proofs.calls.variable_fits.Statement.{statement}
-use Rattle.byte_calls.proofs.calls.variable_fits.Tie as tie
+use Rattle.byte_calls.proofs.arguments.variable_fits.Statement.{statement}
+use Rattle.byte_calls.proofs.arguments.variable_fits.Tie as tie
 
 sub-name-length : tie.Need-sub-name-length
 sub-name-length c = search needs
