@@ -1,58 +1,40 @@
--- <<
 use native.Mathlib.Omega.{arith}
 use lib.ListN.{length-take}
 use Rattle.byte_calls.proofs.Fits.{output-zeros}
--- >>
 use borrow.Author.Needs.{needs}
 use Rattle.observed.proofs.play_on.Statement.{statement}
 use Rattle.observed.proofs.play_on.Tie as tie
-use Rattle.observed.proofs.play_on.Reads as reads
-use Rattle.observed.proofs.play_on.Lts as lts
-use Rattle.lines.proofs.input.output_length.Reads as output-length-reads
-use Rattle.lines.proofs.room.zero_bytes.Reads as zero-bytes-reads
-use Rattle.observed.proofs.play.Reads as play-reads
 
--- src/lib.rt:65:19
 zero-bytes-requires : tie.Need-zero-bytes-requires
 zero-bytes-requires c κs = search needs
 
--- src/lib.rt:66:9
 output-length-requires : tie.Need-output-length-requires
 output-length-requires c κs = search needs
 
--- src/lib.rt:67:41
 array-borrow-prefix-out : tie.Need-array-borrow-prefix-out
 array-borrow-prefix-out c = search needs
 
--- src/lib.rt:67:41
 slice-aggregate-play : tie.Need-slice-aggregate-play
 slice-aggregate-play c = simp length-take (omega arith)
 
--- src/lib.rt:67:5
 play-requires : tie.Need-play-requires
 play-requires c κs = (c .before .before .before .before .before .before .before .before .before .before .before .before .before .before .before .pre .1 .0, (c .before .before .before .before .before .before .before .before .before .before .before .before .before .before .before .pre .1 .1 .0, (c .before .before .before .before .before .before .before .before .before .before .before .before .before .before .before .pre .1 .1 .1 .0, (output-zeros _ _ _ (c .before .before .before .before .before .before .before .zero-bytes .ensures .0) (c .before .before .before .before .before .before .output-length .ensures) (c .before .before .before .before .before .before .before .before .before .before .before .before .before .before .before .pre .0), c .before .before .before .before .before .before .before .before .before .before .before .before .before .before .before .pre .1 .1 .1 .1))))
 
--- src/lib.rt:47:1
 same-length : tie.Need-same-length
 same-length c = search needs
 
--- src/lib.rt:47:1
 same-length-2 : tie.Need-same-length-2
 same-length-2 c = search needs
 
--- src/lib.rt:47:1
 same-length-3 : tie.Need-same-length-3
 same-length-3 c = search needs
 
--- src/lib.rt:47:1
 same-length-4 : tie.Need-same-length-4
 same-length-4 c = search needs
 
--- src/lib.rt:47:1
 same-length-5 : tie.Need-same-length-5
 same-length-5 c = search needs
 
--- src/lib.rt:47:1
 returns : tie.Need-returns
 returns c = search needs
 

@@ -1,87 +1,60 @@
--- <<
 use native.Mathlib.Omega.{arith}
 use lib.ListN.{length-take}
 use Rattle.byte_calls.proofs.Fits.{output-zeros}
 use Rattle.byte_calls.proofs.Plays.{carried}
 use Rattle.session.proofs.Shows.{shows}
--- >>
 use borrow.Author.Needs.{needs}
 use Rattle.session.proofs.play.Statement.{statement}
 use Rattle.session.proofs.play.Tie as tie
-use Rattle.session.proofs.play.Reads as reads
-use Rattle.session.proofs.play.Lts as lts
-use Rattle.byte_calls.proofs.calls.play_call.Reads as play-call-reads
-use Rattle.io.proofs.write_all.Reads as write-all-reads
-use Rattle.lines.proofs.input.output_length.Reads as output-length-reads
-use Rattle.lines.proofs.room.log_words.Reads as log-words-reads
-use Rattle.lines.proofs.room.zero_bytes.Reads as zero-bytes-reads
-use Rattle.lines.proofs.text.put_lines.Reads as put-lines-reads
 
--- src/lib.rt:55:19
 log-words-requires : tie.Need-log-words-requires
 log-words-requires c κs = search needs
 
--- src/lib.rt:56:19
 zero-bytes-requires : tie.Need-zero-bytes-requires
 zero-bytes-requires c κs = search needs
 
--- src/lib.rt:57:9
 output-length-requires : tie.Need-output-length-requires
 output-length-requires c κs = search needs
 
--- src/lib.rt:58:68
 slice-aggregate-play-call : tie.Need-slice-aggregate-play-call
 slice-aggregate-play-call c = search needs
 
--- src/lib.rt:58:83
 array-borrow-prefix-out : tie.Need-array-borrow-prefix-out
 array-borrow-prefix-out c = search needs
 
--- src/lib.rt:58:83
 slice-aggregate-play-call-2 : tie.Need-slice-aggregate-play-call-2
 slice-aggregate-play-call-2 c = simp length-take (omega arith)
 
--- src/lib.rt:58:9
 play-call-requires : tie.Need-play-call-requires
 play-call-requires c κs = (c .before .before .before .before .before .before .before .before .before .before .before .before .before .before .pre .1 .0, (c .before .before .before .before .before .before .before .before .before .before .before .before .before .before .pre .1 .1 .0, (c .before .before .before .before .before .before .before .before .before .before .before .before .before .before .pre .1 .1 .1 .0, (output-zeros _ _ _ (c .before .before .before .before .before .before .zero-bytes .ensures .0) (c .before .before .before .before .before .output-length .ensures) (c .before .before .before .before .before .before .before .before .before .before .before .before .before .before .pre .0)))))
 
--- src/lib.rt:59:54
 slice-aggregate-put-lines : tie.Need-slice-aggregate-put-lines
 slice-aggregate-put-lines c = search needs
 
--- src/lib.rt:59:9
 put-lines-requires : tie.Need-put-lines-requires
 put-lines-requires c κs = (c .before .before .before .before .before .before .before .before .before .before .before .play-call .ensures .held, (c .before .before .before .before .before .before .before .before .before .before .before .before .before .before .before .before .before .before .before .before .before .before .before .before .before .before .pre .1 .1 .1 .1, omega (arith, c .before .before .before .before .before .before .before .before .before .before .before .play-call .kept .1 .1 .1 .1 .1 .0, c .before .before .before .before .before .before .before .before .before .before .before .before .before .before .before .before .before .before .before .log-words .ensures .1)))
 
--- src/lib.rt:60:22
 slice-reshare-prefix-write-all : tie.Need-slice-reshare-prefix-write-all
 slice-reshare-prefix-write-all c = search needs
 
--- src/lib.rt:60:22
 slice-aggregate-write-all : tie.Need-slice-aggregate-write-all
 slice-aggregate-write-all c = simp length-take (omega arith)
 
--- src/lib.rt:60:5
 write-all-requires : tie.Need-write-all-requires
 write-all-requires c κs = search needs
 
--- src/lib.rt:37:1
 same-length : tie.Need-same-length
 same-length c = search needs
 
--- src/lib.rt:37:1
 same-length-2 : tie.Need-same-length-2
 same-length-2 c = search needs
 
--- src/lib.rt:37:1
 same-length-3 : tie.Need-same-length-3
 same-length-3 c = search needs
 
--- src/lib.rt:37:1
 same-length-4 : tie.Need-same-length-4
 same-length-4 c = search needs
 
--- src/lib.rt:37:1
 returns : tie.Need-returns
 returns c =
     let p = c .before .before .before .before in

@@ -1,111 +1,79 @@
--- <<
 use Prim.Native.Nat.{_≤_}
 use mathlib.Core.Path.{sym}
 use native.Mathlib.Omega.{arith}
 use lib.ListN.{length}
 use lib.Seq.{length-take-le}
 use Rattle.lines.proofs.Read.{fits}
--- >>
 use borrow.Author.Needs.{needs}
 use Rattle.session.proofs.turn.Statement.{statement}
 use Rattle.session.proofs.turn.Tie as tie
-use Rattle.session.proofs.turn.Reads as reads
-use Rattle.session.proofs.turn.Lts as lts
-use Rattle.lines.proofs.input.read_call.Reads as read-call-reads
-use Rattle.lines.proofs.room.recording_words.Reads as recording-words-reads
-use Rattle.lines.proofs.room.zero_bytes.Reads as zero-bytes-reads
-use Rattle.session.proofs.bad.Reads as bad-reads
-use Rattle.session.proofs.play.Reads as play-reads
 
--- ++
 count-fits : (c : tie.After-known-told) → c .before .next .given .0 .1 .0 ≤ length (c .before .before .before .before .before .read-call .last .0)
 count-fits c = omega (arith, fits _ _ _ _ _ (c .before .next .given .1) (c .before .before .before .before .before .read-call .ensures) .0, c .before .before .before .before .before .read-call .kept .0, c .before .before .before .before .before .before .before .before .before .zero-bytes .ensures .1)
 
 words-fit : (c : tie.After-known-told) → c .before .next .given .0 .1 .1 .0 ≤ length (c .before .before .before .before .before .read-call .last .1 .0)
 words-fit c = omega (arith, fits _ _ _ _ _ (c .before .next .given .1) (c .before .before .before .before .before .read-call .ensures) .1, c .before .before .before .before .before .read-call .kept .1 .0, c .before .before .before .before .before .before .before .before .recording-words .ensures)
 
--- --
--- src/lib.rt:71:20
 zero-bytes-requires : tie.Need-zero-bytes-requires
 zero-bytes-requires c κs = search needs
 
--- src/lib.rt:72:19
 recording-words-requires : tie.Need-recording-words-requires
 recording-words-requires c κs = search needs
 
--- src/lib.rt:73:40
 slice-aggregate-read-call : tie.Need-slice-aggregate-read-call
 slice-aggregate-read-call c = search needs
 
--- src/lib.rt:73:51
 slice-aggregate-read-call-2 : tie.Need-slice-aggregate-read-call-2
 slice-aggregate-read-call-2 c = search needs
 
--- src/lib.rt:73:9
 read-call-requires : tie.Need-read-call-requires
 read-call-requires c κs = search needs
 
--- src/lib.rt:75:26
 enum-told : tie.Need-enum-told
 enum-told c = search needs
 
--- src/lib.rt:76:22
 enum-told-2 : tie.Need-enum-told-2
 enum-told-2 c = search needs
 
--- src/lib.rt:76:22
 bad-requires : tie.Need-bad-requires
 bad-requires c κs = search needs
 
--- src/lib.rt:77:19
 enum-known-next : tie.Need-enum-known-next
 enum-known-next c = search needs
 
--- src/lib.rt:78:24
 array-share-prefix-args : tie.Need-array-share-prefix-args
 array-share-prefix-args c = count-fits c
 
--- src/lib.rt:78:24
 slice-aggregate-play : tie.Need-slice-aggregate-play
 slice-aggregate-play c = sym (length-take-le _ _ (count-fits (c .before)))
 
--- src/lib.rt:78:40
 array-share-prefix-rec : tie.Need-array-share-prefix-rec
 array-share-prefix-rec c = words-fit (c .before)
 
--- src/lib.rt:78:40
 slice-aggregate-play-2 : tie.Need-slice-aggregate-play-2
 slice-aggregate-play-2 c = sym (length-take-le _ _ (words-fit (c .before .before)))
 
--- src/lib.rt:78:13
 play-requires : tie.Need-play-requires
 play-requires c κs = (fits _ _ _ _ _ (c .before .before .before .before .before .before .before .next .given .1) (c .before .before .before .before .before .before .before .before .before .before .before .read-call .ensures) .2, c .before .before .before .before .before .before .before .before .before .before .before .before .before .before .before .before .before .before .before .before .pre)
 
--- src/lib.rt:64:1
 returns : tie.Need-returns
 returns c = search needs
 
--- src/lib.rt:64:1
 returns-2 : tie.Need-returns-2
 returns-2 c = search needs
 
--- src/lib.rt:64:1
 same-length : tie.Need-same-length
 same-length c = search needs
 
--- src/lib.rt:64:1
 same-length-2 : tie.Need-same-length-2
 same-length-2 c = search needs
 
--- src/lib.rt:64:1
 same-length-3 : tie.Need-same-length-3
 same-length-3 c = search needs
 
--- src/lib.rt:64:1
 same-length-4 : tie.Need-same-length-4
 same-length-4 c = search needs
 
--- src/lib.rt:64:1
 returns-3 : tie.Need-returns-3
 returns-3 c = search needs
 

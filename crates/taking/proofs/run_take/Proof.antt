@@ -1,4 +1,3 @@
--- <<
 use mathlib.Core.Path.{sym, _∙_}
 use native.Mathlib.Omega.{arith}
 use Rattle.wlan.specs.declared.DriverError.{DriverError}
@@ -7,62 +6,43 @@ use Rattle.wlan.specs.declared.Refusal.{Refusal}
 use Rattle.ending.proofs.Takes as ending
 use Rattle.turning.specs.Turning.{worldIn}
 use Rattle.taking.proofs.Laws as law
--- >>
 use borrow.Author.Needs.{needs}
 use Rattle.taking.proofs.run_take.Statement.{statement}
 use Rattle.taking.proofs.run_take.Tie as tie
-use Rattle.taking.proofs.run_take.Reads as reads
-use Rattle.taking.proofs.run_take.Lts as lts
-use Rattle.places.proofs.read.frame_at.Reads as frame-at-reads
-use Rattle.run_end.proofs.error_end.Reads as error-end-reads
-use Rattle.taking.proofs.other_length.Reads as other-length-reads
-use Rattle.taking.proofs.take_frame.Reads as take-frame-reads
 
--- src/lib.rt:64:9
 other-length-requires : tie.Need-other-length-requires
 other-length-requires c κs = search needs
 
--- src/lib.rt:64:9
 returns : tie.Need-returns
 returns c = λ rec log. law.leaves (Outcome.Refused Refusal.BufferLength) (c .before .before .before .before .before .args .s .now) log (c .before .before .before .before .before .args .buf .now) (c .before .before .before .before .before .args .out .now) (c .other-length .ensures) (omega arith) (c .before .before .before .before .before .pre) (ending.take-13 (worldIn (c .before .before .before .before .before .args .s .now) (c .before .before .before .before .before .args .buf .now)) rec log (c .before .before .before .before .before .args .out .now) (c .before .if1 .taken))
 
--- src/lib.rt:66:9
 frame-at-requires : tie.Need-frame-at-requires
 frame-at-requires c κs = search needs
 
--- src/lib.rt:68:38
 enum-told : tie.Need-enum-told
 enum-told c = search needs
 
--- src/lib.rt:68:28
 error-end-requires : tie.Need-error-end-requires
 error-end-requires c κs = search needs
 
--- src/lib.rt:69:25
 enum-known-rx : tie.Need-enum-known-rx
 enum-known-rx c = search needs
 
--- src/lib.rt:69:31
 take-frame-requires : tie.Need-take-frame-requires
 take-frame-requires c κs = search needs
 
--- src/lib.rt:59:1
 same-length : tie.Need-same-length
 same-length c = search needs
 
--- src/lib.rt:59:1
 returns-2 : tie.Need-returns-2
 returns-2 c = λ rec log. law.leaves (Outcome.Refused (Refusal.Driver DriverError.WouldBlock)) (c .before .before .before .before .before .before .before .before .before .args .s .now) log (c .before .before .before .before .before .before .before .before .before .args .buf .now) (c .before .before .before .before .before .before .before .before .before .args .out .now) (c .error-end .ensures .0) (c .error-end .ensures .1) (c .before .before .before .before .before .before .before .before .before .pre) (ending.take-none (worldIn (c .before .before .before .before .before .before .before .before .before .args .s .now) (c .before .before .before .before .before .before .before .before .before .args .buf .now)) rec log (c .before .before .before .before .before .before .before .before .before .args .out .now) (c .before .before .before .before .before .if1 .left) (sym (c .before .before .before .frame-at .ensures) ∙ c .before .enum-told .given .1))
 
--- src/lib.rt:59:1
 same-length-2 : tie.Need-same-length-2
 same-length-2 c = search needs
 
--- src/lib.rt:59:1
 same-length-3 : tie.Need-same-length-3
 same-length-3 c = search needs
 
--- src/lib.rt:59:1
 returns-3 : tie.Need-returns-3
 returns-3 c = λ rec log. rw (ending.take-some (worldIn (c .before .before .before .before .before .before .before .before .before .before .before .before .before .before .before .before .args .s .now) (c .before .before .before .before .before .before .before .before .before .before .before .before .before .before .before .before .args .buf .now)) rec log (c .before .before .before .before .before .before .before .before .before .before .before .before .before .before .before .before .args .out .now) (c .before .before .before .before .before .before .before .before .before .before .before .before .if1 .left) _ (sym (c .before .before .before .before .before .before .before .before .before .before .frame-at .ensures) ∙ c .before .before .before .before .before .before .before .before .rx .given .1)) at (c .before .before .before .before .take-frame .ensures log)
 

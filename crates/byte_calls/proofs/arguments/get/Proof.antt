@@ -1,26 +1,17 @@
--- <<
 use Rattle.byte_calls.proofs.Numbered.{get-is, get-bad}
--- >>
 use borrow.Author.Needs.{needs}
 use Rattle.byte_calls.proofs.arguments.get.Statement.{statement}
 use Rattle.byte_calls.proofs.arguments.get.Tie as tie
-use Rattle.byte_calls.proofs.arguments.get.Reads as reads
-use Rattle.byte_calls.proofs.arguments.get.Lts as lts
-use Rattle.words.proofs.get_le32.Reads as get-le32-reads
 
--- src/arguments.rt:100:52
 get-le32-requires : tie.Need-get-le32-requires
 get-le32-requires c κs = search needs
 
--- src/arguments.rt:100:71
 get-le32-requires-2 : tie.Need-get-le32-requires-2
 get-le32-requires-2 c κs = search needs
 
--- src/arguments.rt:100:9
 returns : tie.Need-returns
 returns c = get-is (c .before .before .before .before .args .args .now) (c .before .get-le32 .ensures) (c .get-le322 .ensures) (c .before .before .if1 .taken)
 
--- src/arguments.rt:96:1
 returns-2 : tie.Need-returns-2
 returns-2 c = get-bad (c .before .before .args .args .now) (c .if1 .left)
 

@@ -1,26 +1,17 @@
--- <<
 use Rattle.byte_calls.proofs.Numbered.{gpio-is, gpio-bad}
--- >>
 use borrow.Author.Needs.{needs}
 use Rattle.byte_calls.proofs.arguments.gpio.Statement.{statement}
 use Rattle.byte_calls.proofs.arguments.gpio.Tie as tie
-use Rattle.byte_calls.proofs.arguments.gpio.Reads as reads
-use Rattle.byte_calls.proofs.arguments.gpio.Lts as lts
-use Rattle.words.proofs.get_le32.Reads as get-le32-reads
 
--- src/arguments.rt:91:51
 get-le32-requires : tie.Need-get-le32-requires
 get-le32-requires c κs = search needs
 
--- src/arguments.rt:91:70
 get-le32-requires-2 : tie.Need-get-le32-requires-2
 get-le32-requires-2 c κs = search needs
 
--- src/arguments.rt:91:9
 returns : tie.Need-returns
 returns c = gpio-is (c .before .before .before .before .args .args .now) (c .before .get-le32 .ensures) (c .get-le322 .ensures) (c .before .before .if1 .taken)
 
--- src/arguments.rt:87:1
 returns-2 : tie.Need-returns-2
 returns-2 c = gpio-bad (c .before .before .args .args .now) (c .if1 .left)
 

@@ -1,90 +1,59 @@
--- <<
 use Rattle.byte_calls.proofs.Numbered.{renumbered}
--- >>
 use borrow.Author.Needs.{needs}
 use Rattle.byte_calls.proofs.arguments.read_args.Statement.{statement}
 use Rattle.byte_calls.proofs.arguments.read_args.Tie as tie
-use Rattle.byte_calls.proofs.arguments.read_args.Reads as reads
-use Rattle.byte_calls.proofs.arguments.read_args.Lts as lts
-use Rattle.byte_calls.proofs.arguments.bare.Reads as bare-reads
-use Rattle.byte_calls.proofs.arguments.get.Reads as get-reads
-use Rattle.byte_calls.proofs.arguments.gpio.Reads as gpio-reads
-use Rattle.byte_calls.proofs.arguments.init.Reads as init-reads
-use Rattle.byte_calls.proofs.arguments.join.Reads as join-reads
-use Rattle.byte_calls.proofs.arguments.send.Reads as send-reads
-use Rattle.byte_calls.proofs.arguments.set.Reads as set-reads
-use Rattle.byte_calls.proofs.arguments.take.Reads as take-reads
-use Rattle.byte_calls.proofs.arguments.variable.Reads as variable-reads
 
--- src/arguments.rt:149:14
 init-requires : tie.Need-init-requires
 init-requires c κs = search needs
 
--- src/arguments.rt:150:14
 join-requires : tie.Need-join-requires
 join-requires c κs = search needs
 
--- src/arguments.rt:151:14
 send-requires : tie.Need-send-requires
 send-requires c κs = search needs
 
--- src/arguments.rt:152:14
 take-requires : tie.Need-take-requires
 take-requires c κs = search needs
 
--- src/arguments.rt:153:14
 gpio-requires : tie.Need-gpio-requires
 gpio-requires c κs = search needs
 
--- src/arguments.rt:154:15
 get-requires : tie.Need-get-requires
 get-requires c κs = search needs
 
--- src/arguments.rt:155:15
 set-requires : tie.Need-set-requires
 set-requires c κs = search needs
 
--- src/arguments.rt:156:15
 variable-requires : tie.Need-variable-requires
 variable-requires c κs = search needs
 
--- src/arguments.rt:157:14
 bare-requires : tie.Need-bare-requires
 bare-requires c κs = search needs
 
--- src/arguments.rt:145:1
 returns : tie.Need-returns
 returns c = renumbered (c .init .result) (c .before .before .before .args .call) 1 (c .before .before .before .args .args .now) (c .before .match .keys1) (c .init .ensures)
 
--- src/arguments.rt:145:1
 returns-2 : tie.Need-returns-2
 returns-2 c = renumbered (c .join .result) (c .before .before .before .args .call) 3 (c .before .before .before .args .args .now) (c .before .match .keys2) (c .join .ensures)
 
--- src/arguments.rt:145:1
 returns-3 : tie.Need-returns-3
 returns-3 c = renumbered (c .send .result) (c .before .before .before .args .call) 7 (c .before .before .before .args .args .now) (c .before .match .keys3) (c .send .ensures)
 
--- src/arguments.rt:145:1
 returns-4 : tie.Need-returns-4
 returns-4 c = renumbered (c .take .result) (c .before .before .before .args .call) 8 (c .before .before .before .args .args .now) (c .before .match .keys4) (c .take .ensures)
 
--- src/arguments.rt:145:1
 returns-5 : tie.Need-returns-5
 returns-5 c = renumbered (c .gpio .result) (c .before .before .before .args .call) 9 (c .before .before .before .args .args .now) (c .before .match .keys5) (c .gpio .ensures)
 
--- src/arguments.rt:145:1
 returns-6 : tie.Need-returns-6
 returns-6 c = renumbered (c .get .result) (c .before .before .before .args .call) 11 (c .before .before .before .args .args .now) (c .before .match .keys6) (c .get .ensures)
 
--- src/arguments.rt:145:1
 returns-7 : tie.Need-returns-7
 returns-7 c = renumbered (c .set .result) (c .before .before .before .args .call) 12 (c .before .before .before .args .args .now) (c .before .match .keys7) (c .set .ensures)
 
--- src/arguments.rt:145:1
 returns-8 : tie.Need-returns-8
 returns-8 c = renumbered (c .variable .result) (c .before .before .before .args .call) 13 (c .before .before .before .args .args .now) (c .before .match .keys8) (c .variable .ensures)
 
--- src/arguments.rt:145:1
 returns-9 : tie.Need-returns-9
 returns-9 c = search needs
 

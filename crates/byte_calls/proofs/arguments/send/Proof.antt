@@ -1,22 +1,14 @@
--- <<
 use Rattle.byte_calls.proofs.Numbered.{send-is, send-bad}
--- >>
 use borrow.Author.Needs.{needs}
 use Rattle.byte_calls.proofs.arguments.send.Statement.{statement}
 use Rattle.byte_calls.proofs.arguments.send.Tie as tie
-use Rattle.byte_calls.proofs.arguments.send.Reads as reads
-use Rattle.byte_calls.proofs.arguments.send.Lts as lts
-use Rattle.words.proofs.get_le32.Reads as get-le32-reads
 
--- src/arguments.rt:72:31
 get-le32-requires : tie.Need-get-le32-requires
 get-le32-requires c κs = search needs
 
--- src/arguments.rt:72:9
 returns : tie.Need-returns
 returns c = send-is (c .before .before .before .args .args .now) (c .get-le32 .ensures) (c .before .if1 .taken)
 
--- src/arguments.rt:68:1
 returns-2 : tie.Need-returns-2
 returns-2 c = send-bad (c .before .before .args .args .now) (c .if1 .left)
 

@@ -1,30 +1,20 @@
--- <<
 use Rattle.byte_calls.proofs.Numbered.{set-is, set-bad}
--- >>
 use borrow.Author.Needs.{needs}
 use Rattle.byte_calls.proofs.arguments.set.Statement.{statement}
 use Rattle.byte_calls.proofs.arguments.set.Tie as tie
-use Rattle.byte_calls.proofs.arguments.set.Reads as reads
-use Rattle.byte_calls.proofs.arguments.set.Lts as lts
-use Rattle.words.proofs.get_le32.Reads as get-le32-reads
 
--- src/arguments.rt:110:13
 get-le32-requires : tie.Need-get-le32-requires
 get-le32-requires c κs = search needs
 
--- src/arguments.rt:111:13
 get-le32-requires-2 : tie.Need-get-le32-requires-2
 get-le32-requires-2 c κs = search needs
 
--- src/arguments.rt:112:13
 get-le32-requires-3 : tie.Need-get-le32-requires-3
 get-le32-requires-3 c κs = search needs
 
--- src/arguments.rt:109:9
 returns : tie.Need-returns
 returns c = set-is (c .before .before .before .before .before .args .args .now) (c .before .before .get-le32 .ensures) (c .before .get-le322 .ensures) (c .get-le323 .ensures) (c .before .before .before .if1 .taken)
 
--- src/arguments.rt:105:1
 returns-2 : tie.Need-returns-2
 returns-2 c = set-bad (c .before .before .args .args .now) (c .if1 .left)
 

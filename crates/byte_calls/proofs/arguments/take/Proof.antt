@@ -1,17 +1,11 @@
--- <<
 use borrow.Author.Needs.{needs}
 use Rattle.byte_calls.proofs.Numbered.{take-is, take-bad}
--- >>
 use Rattle.byte_calls.proofs.arguments.take.Statement.{statement}
 use Rattle.byte_calls.proofs.arguments.take.Tie as tie
-use Rattle.byte_calls.proofs.arguments.take.Reads as reads
-use Rattle.byte_calls.proofs.arguments.take.Lts as lts
 
--- src/arguments.rt:82:9
 returns : tie.Need-returns
 returns c = take-is (c .before .args .args .now) (c .if1 .taken)
 
--- src/arguments.rt:78:1
 returns-2 : tie.Need-returns-2
 returns-2 c = take-bad (c .before .args .args .now) (c .if1 .left)
 

@@ -1,46 +1,31 @@
--- <<
 use mathlib.Core.Path.{sym, _∙_}
 use Rattle.byte_calls.proofs.Fits.{variable-long}
 use Rattle.byte_calls.proofs.Numbered.{variable-is, variable-bad}
--- >>
 use borrow.Author.Needs.{needs}
 use Rattle.byte_calls.proofs.arguments.variable.Statement.{statement}
 use Rattle.byte_calls.proofs.arguments.variable.Tie as tie
-use Rattle.byte_calls.proofs.arguments.variable.Reads as reads
-use Rattle.byte_calls.proofs.arguments.variable.Lts as lts
-use Rattle.byte_calls.proofs.arguments.name_length.Reads as name-length-reads
-use Rattle.byte_calls.proofs.arguments.variable_fits.Reads as variable-fits-reads
-use Rattle.words.proofs.get_le32.Reads as get-le32-reads
 
--- src/arguments.rt:121:8
 variable-fits-requires : tie.Need-variable-fits-requires
 variable-fits-requires c κs = search needs
 
--- src/arguments.rt:122:35
 get-le32-requires : tie.Need-get-le32-requires
 get-le32-requires c κs = search needs
 
--- src/arguments.rt:122:66
 sub-name-length : tie.Need-sub-name-length
 sub-name-length c = variable-long (c .before .before .before .before .args .args .now) (sym (c .before .before .variable-fits .ensures) ∙ c .before .if1 .taken)
 
--- src/arguments.rt:122:66
 part-name-length-start : tie.Need-part-name-length-start
 part-name-length-start c = variable-long (c .before .before .before .before .args .args .now) (sym (c .before .before .variable-fits .ensures) ∙ c .before .if1 .taken)
 
--- src/arguments.rt:122:66
 part-name-length-end : tie.Need-part-name-length-end
 part-name-length-end c = search needs
 
--- src/arguments.rt:122:54
 name-length-requires : tie.Need-name-length-requires
 name-length-requires c κs = search needs
 
--- src/arguments.rt:122:9
 returns : tie.Need-returns
 returns c = variable-is (c .before .before .before .before .before .before .args .args .now) (c .before .before .get-le32 .ensures) (c .name-length .ensures) (sym (c .before .before .before .before .variable-fits .ensures) ∙ c .before .before .before .if1 .taken)
 
--- src/arguments.rt:118:1
 returns-2 : tie.Need-returns-2
 returns-2 c = variable-bad (c .before .before .before .args .args .now) (sym (c .before .variable-fits .ensures) ∙ c .if1 .left)
 
