@@ -1,6 +1,3 @@
--- <<
-
--- >>
 use mathlib.Core.Path.{_≡_}
 use mathlib.Core.Bool.{true}
 use native.Mathlib.Omega.{arith}
