@@ -1,11 +1,9 @@
 // A call by value: state and scan list go into a session's bytes, the call runs on them, and they are read from the bytes again.
 use going::CallEnd;
-use jobs::PlainCall;
+use jobs::ExchangeCall;
 use run_end::RunEnd;
 use run_end::outcome::outcome_of;
-use runs::exchanges::run_join;
-use runs::exchanges::run_plain;
-use runs::exchanges::run_variable;
+use runs::exchanges::run_exchanges;
 use runs::frames::run_send;
 use runs::polling::run_poll;
 use session_bytes::session::Session;
@@ -17,7 +15,7 @@ use wlan::Refusal;
 use wlan::ScanList;
 use wlan::State;
 ghost use mathlib.Core.Path.{_≡_};
-ghost use mathlib.Core.Bool.{true, false};
+ghost use mathlib.Core.Bool.{true};
 ghost use mathlib.Core.List.{List, []};
 ghost use Prim.Native.Nat.{ℕ};
 ghost use Rattle.wlan.specs.declared.Outcome as outcome;
@@ -28,7 +26,6 @@ ghost use Rattle.definition.specs.Calls.{Call};
 ghost use Rattle.definition.specs.Run.{End, called};
 ghost use Rattle.jobs.specs.Jobs.{callOf};
 ghost use Rattle.session_bytes.specs.Session.{isSession};
-ghost use Rattle.starting.specs.Starting.{isPoll};
 ghost use Rattle.going.specs.Onward.{endOf};
 ghost use Rattle.runs.specs.Runs.{Left};
 
@@ -57,16 +54,18 @@ fn other_length(st: State, list: ScanList) -> CallEnd
     }
 }
 
-pub fn plain(
-    c: PlainCall,
+// The calls that are exchanges; a and b: the byte arguments.
+pub fn exchanges(
+    c: ExchangeCall,
+    a: &[u8],
+    b: &[u8],
     st: State,
     list: ScanList,
     rec: &[u32],
     log: &mut [u32],
     buf: &mut [u8],
 ) -> CallEnd
-    requires { ⌜ isPoll c ≡ false ⌝ }
-    ensures { λ r. ⌜ endOf r (now (log .exit)) (now (buf .exit)) [] ≡ called (callOf c) (world st (now (buf .entry)) list) (now (rec .entry)) (now (log .entry)) [] ⌝ }
+    ensures { λ r. ⌜ endOf r (now (log .exit)) (now (buf .exit)) [] ≡ called (callOf c (now (a .entry)) (now (b .entry))) (world st (now (buf .entry)) list) (now (rec .entry)) (now (log .entry)) [] ⌝ }
 {
     if buf.len() != 2048 {
         return other_length(st, list);
@@ -74,8 +73,23 @@ pub fn plain(
     let mut s = [0u8; 1393];
     let mut undo = [0u8; 3444];
     put_session(Session { st: st, list: list }, &mut s);
-    let r = run_plain(c, &mut s, &mut undo, rec, log, buf);
+    let r = run_exchanges(c, a, b, &mut s, &mut undo, rec, log, buf);
     end_of(r, &s)
+}
+
+// Those without byte arguments.
+pub fn plain(
+    c: ExchangeCall,
+    st: State,
+    list: ScanList,
+    rec: &[u32],
+    log: &mut [u32],
+    buf: &mut [u8],
+) -> CallEnd
+    ensures { λ r. ⌜ endOf r (now (log .exit)) (now (buf .exit)) [] ≡ called (callOf c [] []) (world st (now (buf .entry)) list) (now (rec .entry)) (now (log .entry)) [] ⌝ }
+{
+    let none = [0u8; 0];
+    exchanges(c, &none, &none, st, list, rec, log, buf)
 }
 
 pub fn poll(st: State, list: ScanList, rec: &[u32], log: &mut [u32], buf: &mut [u8]) -> CallEnd
@@ -88,28 +102,6 @@ pub fn poll(st: State, list: ScanList, rec: &[u32], log: &mut [u32], buf: &mut [
     let mut undo = [0u8; 3444];
     put_session(Session { st: st, list: list }, &mut s);
     let r = run_poll(&mut s, &mut undo, rec, log, buf);
-    end_of(r, &s)
-}
-
-pub fn join(
-    auth: u32,
-    ssid: &[u8],
-    passphrase: &[u8],
-    st: State,
-    list: ScanList,
-    rec: &[u32],
-    log: &mut [u32],
-    buf: &mut [u8],
-) -> CallEnd
-    ensures { λ r. ⌜ endOf r (now (log .exit)) (now (buf .exit)) [] ≡ called (Call.wifiConnect auth (now (ssid .entry)) (now (passphrase .entry))) (world st (now (buf .entry)) list) (now (rec .entry)) (now (log .entry)) [] ⌝ }
-{
-    if buf.len() != 2048 {
-        return other_length(st, list);
-    }
-    let mut s = [0u8; 1393];
-    let mut undo = [0u8; 3444];
-    put_session(Session { st: st, list: list }, &mut s);
-    let r = run_join(auth, ssid, passphrase, &mut s, &mut undo, rec, log, buf);
     end_of(r, &s)
 }
 
@@ -131,27 +123,5 @@ pub fn send(
     let mut undo = [0u8; 3444];
     put_session(Session { st: st, list: list }, &mut s);
     let r = run_send(interface, frame, &mut s, &mut undo, rec, log, buf);
-    end_of(r, &s)
-}
-
-pub fn variable(
-    interface: u32,
-    name: &[u8],
-    bytes: &[u8],
-    st: State,
-    list: ScanList,
-    rec: &[u32],
-    log: &mut [u32],
-    buf: &mut [u8],
-) -> CallEnd
-    ensures { λ r. ⌜ endOf r (now (log .exit)) (now (buf .exit)) [] ≡ called (Call.writeIovar interface (now (name .entry)) (now (bytes .entry))) (world st (now (buf .entry)) list) (now (rec .entry)) (now (log .entry)) [] ⌝ }
-{
-    if buf.len() != 2048 {
-        return other_length(st, list);
-    }
-    let mut s = [0u8; 1393];
-    let mut undo = [0u8; 3444];
-    put_session(Session { st: st, list: list }, &mut s);
-    let r = run_variable(interface, name, bytes, &mut s, &mut undo, rec, log, buf);
     end_of(r, &s)
 }

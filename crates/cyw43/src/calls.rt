@@ -1,9 +1,9 @@
 // init, scan, join, leave, abort, poll.
-use call::join;
+use call::exchanges;
 use call::plain;
 use call::poll;
 use going::CallEnd;
-use jobs::PlainCall;
+use jobs::ExchangeCall;
 use wlan::ScanList;
 use wlan::State;
 ghost use mathlib.Core.Path.{_≡_};
@@ -23,13 +23,13 @@ pub fn wifi_init(
 ) -> CallEnd
     ensures { λ r. ⌜ endOf r (now (log .exit)) (now (buf .exit)) [] ≡ called (Call.wifiInit country) (world st (now (buf .entry)) list) (now (rec .entry)) (now (log .entry)) [] ⌝ }
 {
-    plain(PlainCall::Init(country), st, list, rec, log, buf)
+    plain(ExchangeCall::Init(country), st, list, rec, log, buf)
 }
 
 pub fn wifi_scan(st: State, list: ScanList, rec: &[u32], log: &mut [u32], buf: &mut [u8]) -> CallEnd
     ensures { λ r. ⌜ endOf r (now (log .exit)) (now (buf .exit)) [] ≡ called Call.wifiScan (world st (now (buf .entry)) list) (now (rec .entry)) (now (log .entry)) [] ⌝ }
 {
-    plain(PlainCall::Scan, st, list, rec, log, buf)
+    plain(ExchangeCall::Scan, st, list, rec, log, buf)
 }
 
 pub fn wifi_connect(
@@ -44,7 +44,16 @@ pub fn wifi_connect(
 ) -> CallEnd
     ensures { λ r. ⌜ endOf r (now (log .exit)) (now (buf .exit)) [] ≡ called (Call.wifiConnect auth (now (ssid .entry)) (now (passphrase .entry))) (world st (now (buf .entry)) list) (now (rec .entry)) (now (log .entry)) [] ⌝ }
 {
-    join(auth, ssid, passphrase, st, list, rec, log, buf)
+    exchanges(
+        ExchangeCall::Connect(auth),
+        ssid,
+        passphrase,
+        st,
+        list,
+        rec,
+        log,
+        buf,
+    )
 }
 
 pub fn wifi_disconnect(
@@ -56,7 +65,7 @@ pub fn wifi_disconnect(
 ) -> CallEnd
     ensures { λ r. ⌜ endOf r (now (log .exit)) (now (buf .exit)) [] ≡ called Call.wifiDisconnect (world st (now (buf .entry)) list) (now (rec .entry)) (now (log .entry)) [] ⌝ }
 {
-    plain(PlainCall::Disconnect, st, list, rec, log, buf)
+    plain(ExchangeCall::Disconnect, st, list, rec, log, buf)
 }
 
 pub fn wifi_abort_connect(
@@ -68,7 +77,7 @@ pub fn wifi_abort_connect(
 ) -> CallEnd
     ensures { λ r. ⌜ endOf r (now (log .exit)) (now (buf .exit)) [] ≡ called Call.wifiAbortConnect (world st (now (buf .entry)) list) (now (rec .entry)) (now (log .entry)) [] ⌝ }
 {
-    plain(PlainCall::AbortConnect, st, list, rec, log, buf)
+    plain(ExchangeCall::AbortConnect, st, list, rec, log, buf)
 }
 
 pub fn wifi_poll(st: State, list: ScanList, rec: &[u32], log: &mut [u32], buf: &mut [u8]) -> CallEnd

@@ -1,8 +1,8 @@
 // GPIO, MAC, get, set, variable, up: calls that are one exchange.
+use call::exchanges;
 use call::plain;
-use call::variable;
 use going::CallEnd;
-use jobs::PlainCall;
+use jobs::ExchangeCall;
 use wlan::ScanList;
 use wlan::State;
 ghost use mathlib.Core.Path.{_≡_};
@@ -23,7 +23,7 @@ pub fn gpio_set(
 ) -> CallEnd
     ensures { λ r. ⌜ endOf r (now (log .exit)) (now (buf .exit)) [] ≡ called (Call.gpioSet pin level) (world st (now (buf .entry)) list) (now (rec .entry)) (now (log .entry)) [] ⌝ }
 {
-    plain(PlainCall::GpioSet(pin, level), st, list, rec, log, buf)
+    plain(ExchangeCall::GpioSet(pin, level), st, list, rec, log, buf)
 }
 
 pub fn get_mac_addr(
@@ -35,7 +35,7 @@ pub fn get_mac_addr(
 ) -> CallEnd
     ensures { λ r. ⌜ endOf r (now (log .exit)) (now (buf .exit)) [] ≡ called Call.getMacAddr (world st (now (buf .entry)) list) (now (rec .entry)) (now (log .entry)) [] ⌝ }
 {
-    plain(PlainCall::GetMacAddr, st, list, rec, log, buf)
+    plain(ExchangeCall::GetMacAddr, st, list, rec, log, buf)
 }
 
 pub fn get_ioctl(
@@ -49,7 +49,14 @@ pub fn get_ioctl(
 ) -> CallEnd
     ensures { λ r. ⌜ endOf r (now (log .exit)) (now (buf .exit)) [] ≡ called (Call.getIoctl cmd interface) (world st (now (buf .entry)) list) (now (rec .entry)) (now (log .entry)) [] ⌝ }
 {
-    plain(PlainCall::GetIoctl(cmd, interface), st, list, rec, log, buf)
+    plain(
+        ExchangeCall::GetIoctl(cmd, interface),
+        st,
+        list,
+        rec,
+        log,
+        buf,
+    )
 }
 
 pub fn set_ioctl(
@@ -65,7 +72,7 @@ pub fn set_ioctl(
     ensures { λ r. ⌜ endOf r (now (log .exit)) (now (buf .exit)) [] ≡ called (Call.setIoctl cmd value interface) (world st (now (buf .entry)) list) (now (rec .entry)) (now (log .entry)) [] ⌝ }
 {
     plain(
-        PlainCall::SetIoctl(cmd, value, interface),
+        ExchangeCall::SetIoctl(cmd, value, interface),
         st,
         list,
         rec,
@@ -86,11 +93,20 @@ pub fn write_iovar(
 ) -> CallEnd
     ensures { λ r. ⌜ endOf r (now (log .exit)) (now (buf .exit)) [] ≡ called (Call.writeIovar interface (now (name .entry)) (now (bytes .entry))) (world st (now (buf .entry)) list) (now (rec .entry)) (now (log .entry)) [] ⌝ }
 {
-    variable(interface, name, bytes, st, list, rec, log, buf)
+    exchanges(
+        ExchangeCall::WriteIovar(interface),
+        name,
+        bytes,
+        st,
+        list,
+        rec,
+        log,
+        buf,
+    )
 }
 
 pub fn up(st: State, list: ScanList, rec: &[u32], log: &mut [u32], buf: &mut [u8]) -> CallEnd
     ensures { λ r. ⌜ endOf r (now (log .exit)) (now (buf .exit)) [] ≡ called Call.up (world st (now (buf .entry)) list) (now (rec .entry)) (now (log .entry)) [] ⌝ }
 {
-    plain(PlainCall::Up, st, list, rec, log, buf)
+    plain(ExchangeCall::Up, st, list, rec, log, buf)
 }

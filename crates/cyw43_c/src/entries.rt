@@ -1,14 +1,8 @@
 // The entries. 100: the session's bytes are none.
-use cyw43::fresh::fresh_list;
-use cyw43::fresh::fresh_state;
-use ending::take::take;
 use entering::poll_entry::poll_entered;
 use entering::send_entry::send_entered;
-use entry::hand::hand_state;
-use session_bytes::session::Session;
-use session_bytes::session::is_session;
-use session_bytes::session::put_session;
-use session_bytes::session::state_in;
+use entering::take_entry::take_entered;
+use fresh_session::put_fresh;
 ghost use mathlib.Core.Path.{_≡_};
 ghost use mathlib.Core.List.{List, []};
 ghost use Prim.Native.Nat.{ℕ};
@@ -17,7 +11,8 @@ ghost use lib.ListN.{length};
 ghost use Rattle.slices.specs.Pick.{pick};
 ghost use Rattle.definition.specs.Calls.{Call};
 ghost use Rattle.session_bytes.specs.Session.{sessionBytes};
-ghost use Rattle.entry.specs.Entry.{shown, entered, freshSession};
+ghost use Rattle.fresh_session.specs.Fresh.{freshSession};
+ghost use Rattle.entry.specs.Entry.{shown, entered};
 ghost use Rattle.entering.specs.Entering as placed;
 
 // Where the bytes have a session's length, they become a fresh session's.
@@ -28,13 +23,7 @@ pub extern "C" fn cyw43_fresh(session: &mut [u8]) -> u32
     if session.len() != 1393 {
         return 100;
     }
-    put_session(
-        Session {
-            st: fresh_state(),
-            list: fresh_list(),
-        },
-        session,
-    );
+    put_fresh(session);
     0
 }
 
@@ -78,9 +67,5 @@ pub extern "C" fn cyw43_take(
 ) -> u32
     ensures { λ r. ⌜ ((rec log : List ℕ) → shown r (now (session .exit)) log (now (buf .entry)) (now (out .exit)) (now (result .exit)) ≡ entered (Call.getRxBuf (length (now (out .entry)))) (now (session .entry)) rec log (now (buf .entry)) (now (out .entry)) (now (result .entry))) ⌝ }
 {
-    if is_session(session) {
-        let st = state_in(session);
-        return hand_state(take(st, buf, out), session, result);
-    }
-    100
+    take_entered(session, buf, out, result)
 }

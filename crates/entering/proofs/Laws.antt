@@ -17,6 +17,7 @@ use Rattle.run_end.specs.RunEnd.{numberBy}
 use Rattle.run_end.proofs.Laws.{number-is}
 use Rattle.turning.specs.Turning as turning
 use Rattle.runs.specs.Runs.{Left}
+use Rattle.taking.specs.Taking.{Leaves}
 use Rattle.runs.proofs.Called.{called-13}
 use Rattle.entry.specs.Entry.{shown, handed, sessionAt}
 use Rattle.entry.proofs.Laws.{handed-is}
@@ -26,13 +27,18 @@ use Rattle.entering.specs.Entering as to
 at-end : (e : End) (session : List ℕ) (buf : Bytes) → turning.worldIn session buf ≡ world (e .st) (e .buf) (e .list) → sessionIn session ≡ sessionAt e
 at-end e session buf h = ap (λ (w : World). record { st = w .st; list = w .list }) h
 
-pub handed-end : (e : End) (r : RunEnd) (result₀ session log result : List ℕ) (buf : Bytes) (x : ℕ) → Left e log session buf r → x ≡ numberBy (r .kind) → result ≡ over result₀ 0 (r .value ∷ r .len ∷ []) → shown x session log buf [] result ≡ handed result₀ e
-handed-end e r result₀ session log result buf x h ex eo =
+pub handed-take : (e : End) (r : RunEnd) (result₀ session log result : List ℕ) (buf out : Bytes) (x : ℕ) → Leaves e log session buf out r → x ≡ numberBy (r .kind) → result ≡ over result₀ 0 (r .value ∷ r .len ∷ []) → shown x session log buf out result ≡ handed result₀ e
+handed-take e r result₀ session log result buf out x h ex eo =
     let s = h .stands in
     let f : sessionBytes (sessionAt e) ≡ session = ap sessionBytes (sym (at-end e session buf s)) ∙ session-form session (h .held) in
     let n = ex ∙ (ap numberBy (h .tells .kind) ∙ number-is (e .outcome)) in
     let g : shown x session (e .log) (e .buf) (e .output) result ≡ handed result₀ e = handed-is e result₀ x (r .value) session result n (h .tells .value) (sym f) (ap isSession f ∙ h .held) (ap sessionIn f ∙ at-end e session buf s) (rw (h .len) at eo) in
-    rw (h .log, ← h .output, ap (λ (v : World). v .buf) s) g
+    rw (h .log, h .output, ap (λ (v : World). v .buf) s) g
+
+-- a call without an output
+pub handed-end : (e : End) (r : RunEnd) (result₀ session log result : List ℕ) (buf : Bytes) (x : ℕ) → Left e log session buf r → x ≡ numberBy (r .kind) → result ≡ over result₀ 0 (r .value ∷ r .len ∷ []) → shown x session log buf [] result ≡ handed result₀ e
+handed-end e r result₀ session log result buf x h =
+    handed-take e r result₀ session log result buf [] x (record { tells = h .tells; len = h .len; log = h .log; output = sym (h .output); held = h .held; stands = h .stands })
 
 -- 13, 100, and a session
 module _ (c : Call) (session rec log result : List ℕ) (buf : Bytes) where

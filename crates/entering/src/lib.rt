@@ -2,6 +2,7 @@
 pub mod exchange_entry;
 pub mod poll_entry;
 pub mod send_entry;
+pub mod take_entry;
 
 use entry::hand::put_result;
 use run_end::RunEnd;

@@ -5,11 +5,9 @@ use mathlib.Core.List.{List, [], _∷_}
 use Rattle.slices.specs.Pick.{pick}
 use Rattle.slices.specs.Over.{over}
 use Rattle.wlan.specs.Outcome.{refusalOf, valueOf}
-use Rattle.wlan.specs.State.{fresh}
 use Rattle.definition.specs.Prog.{world}
 use Rattle.definition.specs.Calls.{Call}
 use Rattle.definition.specs.Run.{End, called}
-use Rattle.definition.specs.Player.{emptyList}
 use Rattle.session_bytes.specs.declared.session.Session.{Session}
 use Rattle.session_bytes.specs.Session.{sessionBytes, sessionIn, isSession}
 
@@ -60,6 +58,3 @@ unfoldable pub entered : Call → List ℕ → List ℕ → List ℕ → List �
 entered c session recording log buf out result =
     let s = sessionIn session in
     pick (isSession session) (handed result (called c (world (s .st) buf (s .list)) recording log out)) (shown 100 session log buf out result)
-
-abbrev pub freshSession : Session
-freshSession = record { st = fresh; list = emptyList }

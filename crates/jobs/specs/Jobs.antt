@@ -25,7 +25,7 @@ use Rattle.control.specs.Steps.{refuses}
 use Rattle.control.specs.Begin.{exchangesStep}
 use Rattle.control.specs.Meaning.{Args, callShown}
 use Rattle.effects.specs.Args.{argsOf}
-use Rattle.jobs.specs.declared.PlainCall.{PlainCall}
+use Rattle.jobs.specs.declared.ExchangeCall.{ExchangeCall}
 
 abbrev jobOf : ℕ → WifiAuth → Bool → Bool → ℕ → Request → Ending → Job
 jobOf c a p s n r e =
@@ -80,15 +80,30 @@ abbrev pub Begins : Call → Bytes → Bytes → State → Begun → Type 0
 Begins c first second s b =
     (buf : Bytes) (l : ScanList) → unroll (call c (world s buf l)) ≡ callShown (argsOf (b .job) first second) (b .step) (eventOf [] 0) (world s buf l)
 
--- the definition's call
-unfoldable pub callOf : PlainCall → Call
-callOf (PlainCall.Init country) = Call.wifiInit country
-callOf PlainCall.Scan = Call.wifiScan
-callOf PlainCall.Disconnect = Call.wifiDisconnect
-callOf PlainCall.AbortConnect = Call.wifiAbortConnect
-callOf PlainCall.Poll = Call.wifiPoll
-callOf (PlainCall.GpioSet pin level) = Call.gpioSet pin level
-callOf PlainCall.GetMacAddr = Call.getMacAddr
-callOf (PlainCall.GetIoctl cmd interface) = Call.getIoctl cmd interface
-callOf (PlainCall.SetIoctl cmd value interface) = Call.setIoctl cmd value interface
-callOf PlainCall.Up = Call.up
+-- the definition's call; a and b: its byte arguments
+unfoldable pub callOf : ExchangeCall → Bytes → Bytes → Call
+callOf (ExchangeCall.Init country) a b = Call.wifiInit country
+callOf ExchangeCall.Scan a b = Call.wifiScan
+callOf (ExchangeCall.Connect auth) a b = Call.wifiConnect auth a b
+callOf ExchangeCall.Disconnect a b = Call.wifiDisconnect
+callOf ExchangeCall.AbortConnect a b = Call.wifiAbortConnect
+callOf (ExchangeCall.GpioSet pin level) a b = Call.gpioSet pin level
+callOf ExchangeCall.GetMacAddr a b = Call.getMacAddr
+callOf (ExchangeCall.GetIoctl cmd interface) a b = Call.getIoctl cmd interface
+callOf (ExchangeCall.SetIoctl cmd value interface) a b = Call.setIoctl cmd value interface
+callOf (ExchangeCall.WriteIovar interface) a b = Call.writeIovar interface a b
+callOf ExchangeCall.Up a b = Call.up
+
+-- how long the byte arguments may be that the run is handed
+unfoldable pub longest : ExchangeCall → Lens
+longest (ExchangeCall.Init _) = noLens
+longest ExchangeCall.Scan = noLens
+longest (ExchangeCall.Connect _) = record { first = 32; second = 128 }
+longest ExchangeCall.Disconnect = noLens
+longest ExchangeCall.AbortConnect = noLens
+longest (ExchangeCall.GpioSet _ _) = noLens
+longest ExchangeCall.GetMacAddr = noLens
+longest (ExchangeCall.GetIoctl _ _) = noLens
+longest (ExchangeCall.SetIoctl _ _ _) = noLens
+longest (ExchangeCall.WriteIovar _) = record { first = 2020; second = 2020 }
+longest ExchangeCall.Up = noLens

@@ -1,6 +1,8 @@
 // What a call hands to the run beside its byte arguments.
+use crate::ExchangeCall;
 use control::Ending;
 use control::Job;
+use control::Lens;
 use requests::Request;
 use wlan::WifiAuth;
 ghost use mathlib.Core.Path.{_≡_};
@@ -61,4 +63,25 @@ pub fn at_most(max: usize, n: usize) -> usize
     ensures most { λ r. ⌜ (n ≤ max → r ≡ n) × (r ≤ max) × (r ≤ n) ⌝ }
 {
     if n <= max { n } else { 0 }
+}
+
+// How long the byte arguments may be that the run is handed: SSID and passphrase, a variable's name and data.
+pub fn longest(c: ExchangeCall) -> Lens
+    ensures is { λ r. ⌜ r ≡ to.longest c ⌝ }
+    ensures most { λ r. ⌜ (r .first ≤ 2020) × (r .second ≤ 2020) ⌝ }
+{
+    match c {
+        ExchangeCall::Connect(_) => Lens {
+            first: 32,
+            second: 128,
+        },
+        ExchangeCall::WriteIovar(_) => Lens {
+            first: 2020,
+            second: 2020,
+        },
+        _ => Lens {
+            first: 0,
+            second: 0,
+        },
+    }
 }

@@ -11,43 +11,24 @@ use Rattle.definition.specs.Bus.{Bytes}
 use Rattle.definition.specs.Prog.{World}
 use Rattle.definition.specs.Calls.{Call}
 use Rattle.definition.specs.Run.{End, called, shown, rolledBack}
+use Rattle.jobs.specs.Jobs as jobs
 use Rattle.going.specs.declared.CallEnd.{CallEnd}
 use Rattle.scan_table.specs.Table.{listOf}
-use Rattle.lent.specs.declared.call.WifiCall.{WifiCall}
-use Rattle.lent.specs.declared.call.LentEnd.{LentEnd}
+use Rattle.lent.specs.declared.calls.WifiCall.{WifiCall}
+use Rattle.lent.specs.declared.calls.LentEnd.{LentEnd}
 
 -- the definition's call; a and b: the bytes that it takes, n: the output's length
 unfoldable pub callOf : WifiCall → Bytes → Bytes → ℕ → Call
-callOf (WifiCall.Init country) a b n = Call.wifiInit country
-callOf WifiCall.Scan a b n = Call.wifiScan
-callOf (WifiCall.Connect auth) a b n = Call.wifiConnect auth a b
-callOf WifiCall.Disconnect a b n = Call.wifiDisconnect
-callOf WifiCall.AbortConnect a b n = Call.wifiAbortConnect
+callOf (WifiCall.Exchanges c) a b n = jobs.callOf c a b
 callOf WifiCall.Poll a b n = Call.wifiPoll
 callOf (WifiCall.SendData interface) a b n = Call.sendData interface a
 callOf WifiCall.GetRxBuf a b n = Call.getRxBuf n
-callOf (WifiCall.GpioSet pin level) a b n = Call.gpioSet pin level
-callOf WifiCall.GetMacAddr a b n = Call.getMacAddr
-callOf (WifiCall.GetIoctl cmd interface) a b n = Call.getIoctl cmd interface
-callOf (WifiCall.SetIoctl cmd value interface) a b n = Call.setIoctl cmd value interface
-callOf (WifiCall.WriteIovar interface) a b n = Call.writeIovar interface a b
-callOf WifiCall.Up a b n = Call.up
 
 unfoldable pub hasOutput : WifiCall → Bool
-hasOutput (WifiCall.Init country) = false
-hasOutput WifiCall.Scan = false
-hasOutput (WifiCall.Connect auth) = false
-hasOutput WifiCall.Disconnect = false
-hasOutput WifiCall.AbortConnect = false
+hasOutput (WifiCall.Exchanges c) = false
 hasOutput WifiCall.Poll = false
 hasOutput (WifiCall.SendData interface) = false
 hasOutput WifiCall.GetRxBuf = true
-hasOutput (WifiCall.GpioSet pin level) = false
-hasOutput WifiCall.GetMacAddr = false
-hasOutput (WifiCall.GetIoctl cmd interface) = false
-hasOutput (WifiCall.SetIoctl cmd value interface) = false
-hasOutput (WifiCall.WriteIovar interface) = false
-hasOutput WifiCall.Up = false
 
 -- take's output, and none of another call
 abbrev pub outputOf : WifiCall → Bytes → Bytes

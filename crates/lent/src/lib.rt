@@ -1,3 +1,3 @@
 // The fourteen calls with the scan list in a lent table of 32 records.
-pub mod call;
+pub mod calls;
 pub mod table;

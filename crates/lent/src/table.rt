@@ -1,9 +1,9 @@
 // The calls over a lent table.
-use crate::call::LentEnd;
-use crate::call::WifiCall;
-use crate::call::lent_end;
-use crate::call::list_of;
-use crate::call::on_list;
+use crate::calls::LentEnd;
+use crate::calls::WifiCall;
+use crate::calls::lent_end;
+use crate::calls::list_of;
+use crate::calls::on_list;
 use scan_table::table::list_in;
 use scan_table::table::put_list;
 use wlan::ScanRecord;

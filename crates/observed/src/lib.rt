@@ -12,7 +12,7 @@ ghost use Rattle.definition.specs.Player.{argumentsOf, playedCall};
 ghost use Rattle.session_bytes.specs.Session.{isSession};
 ghost use Rattle.turning.specs.Turning.{worldIn};
 ghost use Rattle.lines.specs.Input.{outputLength};
-ghost use Rattle.byte_calls.specs.Play.{worldAfter};
+ghost use Rattle.session.specs.Play.{worldAfter};
 
 // Plays one call on this log and output, and prints all of it.
 fn play(
@@ -35,7 +35,7 @@ fn play(
     ensures held { λ _. ⌜ isSession (now (s .exit)) ≡ true ⌝ }
     ensures finds { λ _. ⌜ worldIn (now (s .exit)) (now (buf .exit)) ≡ worldAfter (playedCall (worldIn (now (s .entry)) (now (buf .entry))) (now (rec .entry)) (now (log .entry)) (now (out .entry)) (argumentsOf call (now (args .entry)))) ⌝ }
 {
-    let r = byte_calls::calls::play_call(call, args, s, undo, rec, log, buf, out);
+    let r = session::calls::play_call(call, args, s, undo, rec, log, buf, out);
     let k = lines::text::put_lines(text, call, r, s, log);
     let going = io::write_all(1, &text[..k]);
     lines::print::end(r, s);

@@ -13,7 +13,7 @@ use Rattle.turning.specs.Turning.{worldIn}
 use Rattle.taking.specs.Taking.{Leaves}
 use Rattle.lines.specs.Input.{outputLength}
 use Rattle.lines.specs.Text.{textOf, Printed}
-use Rattle.byte_calls.specs.Play.{Plays, callEnd, Fronts}
+use Rattle.session.specs.Play.{Plays, callEnd, Fronts}
 
 -- what is printed of an end is what the call left
 printed : {e : End} {log d : List ℕ} {g o : Bytes} {r : RunEnd} → Leaves e log d g o r → Printed e log d r

@@ -1,6 +1,8 @@
 // A session of the player: one call read, played and printed. What passes from call to call lies in the session's bytes and the work
 // buffer; what is returned is whether the session goes on.
 
+pub mod calls;
+
 use lines::input::Next;
 ghost use mathlib.Core.Path.{_≡_};
 ghost use mathlib.Core.Bool.{true, false};
@@ -14,7 +16,7 @@ ghost use Rattle.session_bytes.specs.Session.{isSession};
 ghost use Rattle.turning.specs.Turning.{worldIn};
 ghost use Rattle.lines.specs.Input.{outputLength};
 ghost use Rattle.lines.specs.Text.{textOf};
-ghost use Rattle.byte_calls.specs.Play.{callEnd, worldAfter, Fronts};
+ghost use Rattle.session.specs.Play.{callEnd, worldAfter, Fronts};
 
 pub fn fresh(s: &mut [u8]) -> bool
     requires { ⌜ length (now s) ≡ 1393 ⌝ }
@@ -55,7 +57,7 @@ fn play(
     let mut log = lines::room::log_words();
     let mut out = lines::room::zero_bytes();
     let n = lines::input::output_length(call, args);
-    let r = byte_calls::calls::play_call(call, args, s, undo, rec, &mut log, buf, &mut out[..n]);
+    let r = calls::play_call(call, args, s, undo, rec, &mut log, buf, &mut out[..n]);
     let k = lines::text::put_lines(text, call, r, s, &log);
     io::write_all(1, &text[..k])
 }

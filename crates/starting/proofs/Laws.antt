@@ -123,6 +123,13 @@ cut-most max n = by (leb n max) refl
     by true e = leb-true n max e
     by false e = omega arith
 
+cut-none : (n : ℕ) → cut 0 n ≡ 0
+cut-none n = omega (arith, cut-most 0 n)
+
+-- a call that takes no byte arguments is handed none
+pub unbytes : (a b : Bytes) (c : Call) (s t : State) (x : Start) → to.Starts c [] [] s t x → to.Starts c (take (cut 0 (length a)) a) (take (cut 0 (length b)) b) s t x
+unbytes a b c s t x h buf l = rw (cut-none (length a), cut-none (length b)) (h buf l)
+
 module _ (auth : ℕ) (ssid passphrase : Bytes) (s : State) where
   abbrev first : Bytes
   first = take (cut 32 (length ssid)) ssid

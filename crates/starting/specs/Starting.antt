@@ -1,7 +1,7 @@
 -- What a start stands for: the call's first step.
-use mathlib.Core.Bool.{Bool, true, false}
+use mathlib.Core.Bool.{false}
 use lib.Dec.{ltb}
-use lib.ListN.{length}
+use lib.ListN.{length, take}
 use Prim.Native.Nat.{ℕ}
 use Rattle.wlan.specs.declared.DriverError.{DriverError}
 use Rattle.wlan.specs.declared.State.{State}
@@ -19,8 +19,8 @@ use Rattle.control.specs.Steps.{ends, refuses}
 use Rattle.control.specs.Begin.{exchangesStep}
 use Rattle.control.specs.Meaning.{lensOf}
 use Rattle.effects.specs.Args.{argsOf}
-use Rattle.jobs.specs.declared.PlainCall.{PlainCall}
-use Rattle.jobs.specs.Jobs.{noJob, joinJob, requestJob, Begins}
+use Rattle.jobs.specs.declared.ExchangeCall.{ExchangeCall}
+use Rattle.jobs.specs.Jobs.{noJob, joinJob, requestJob, Begins, cut, callOf, longest}
 use Rattle.starting.specs.declared.Start.{Start}
 use Rattle.starting.specs.declared.StartKind.{StartKind}
 
@@ -36,6 +36,11 @@ stepOf x l s = stepBy (x .kind) x l s
 abbrev pub Starts : Call → Bytes → Bytes → State → State → Start → Type 0
 Starts c first second s t x =
     Begins c first second s (record { job = x .job; step = stepOf x (lensOf (argsOf (x .job) first second)) t })
+
+-- the same of a call with its byte arguments a and b; the run is handed them cut
+abbrev pub CallStarts : ExchangeCall → Bytes → Bytes → State → State → Start → Type 0
+CallStarts c a b s t x =
+    Starts (callOf c a b) (take (cut (longest c .first) (length a)) a) (take (cut (longest c .second) (length b)) b) s t x
 
 abbrev start : StartKind → Job → Stage → DriverError → Start
 start k j g e = record { kind = k; job = j; stage = g; error = e }
@@ -58,15 +63,3 @@ invalidArg = refused noJob DriverError.InvalidArg
 -- a join's job, with its byte arguments uncut
 abbrev pub joinOf : ℕ → Bytes → Bytes → Job
 joinOf auth ssid passphrase = joinJob (authOf auth) (tooLong (authOf auth) (length passphrase)) (ltb 32 (length ssid))
-
-unfoldable pub isPoll : PlainCall → Bool
-isPoll (PlainCall.Init _) = false
-isPoll PlainCall.Scan = false
-isPoll PlainCall.Disconnect = false
-isPoll PlainCall.AbortConnect = false
-isPoll PlainCall.Poll = true
-isPoll (PlainCall.GpioSet _ _) = false
-isPoll PlainCall.GetMacAddr = false
-isPoll (PlainCall.GetIoctl _ _) = false
-isPoll (PlainCall.SetIoctl _ _ _) = false
-isPoll PlainCall.Up = false

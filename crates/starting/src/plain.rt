@@ -6,7 +6,6 @@ use crate::kinds::invalid_arg;
 use crate::kinds::single;
 use control::Ending;
 use control::Stage;
-use jobs::PlainCall;
 use jobs::jobs::init_job;
 use jobs::jobs::no_job;
 use places::read::marks_at;
@@ -15,7 +14,7 @@ use requests::Request;
 use requests::numbers::is_command;
 use requests::numbers::is_interface;
 ghost use mathlib.Core.Path.{_≡_};
-ghost use mathlib.Core.Bool.{true, false};
+ghost use mathlib.Core.Bool.{true};
 ghost use mathlib.Core.List.{[]};
 ghost use Prim.Native.Nat.{_<_, _^_};
 ghost use lib.Dec.{eqb};
@@ -23,7 +22,6 @@ ghost use Rattle.slices.specs.Pick.{pick};
 ghost use Rattle.wlan.specs.declared.State as state;
 ghost use Rattle.definition.specs.Calls.{Call};
 ghost use Rattle.session_bytes.specs.Session.{isSession, sessionIn};
-ghost use Rattle.jobs.specs.Jobs.{callOf};
 ghost use Rattle.starting.specs.Starting as to;
 
 pub fn init_start(country: u32) -> Start
@@ -124,24 +122,4 @@ pub fn gpio_start(pin: u32, level: u32) -> Start
         return single(q, Ending::Done);
     }
     invalid_arg()
-}
-
-// All but poll, which begins with a read.
-pub fn plain_start(c: PlainCall, s: &[u8]) -> Start
-    requires { ⌜ to.isPoll c ≡ false ⌝ }
-    requires { ⌜ isSession (now s) ≡ true ⌝ }
-    ensures { λ r. ⌜ to.Starts (callOf c) [] [] (sessionIn (now (s .entry)) .st) (sessionIn (now (s .entry)) .st) r ⌝ }
-{
-    match c {
-        PlainCall::Init(country) => init_start(country),
-        PlainCall::Scan => scan_start(s),
-        PlainCall::Disconnect => leave_start(),
-        PlainCall::AbortConnect => leave_start(),
-        PlainCall::Poll => invalid_arg(),
-        PlainCall::GpioSet(pin, level) => gpio_start(pin, level),
-        PlainCall::GetMacAddr => mac_start(),
-        PlainCall::GetIoctl(cmd, interface) => get_start(cmd, interface),
-        PlainCall::SetIoctl(cmd, value, interface) => set_start(cmd, value, interface),
-        PlainCall::Up => up_start(),
-    }
 }

@@ -1,6 +1,6 @@
 use native.Mathlib.Omega.{arith}
 use lib.ListN.{length-take}
-use Rattle.byte_calls.proofs.Fits.{output-zeros}
+use Rattle.session.proofs.Plays.{output-zeros}
 use borrow.Author.Needs.{needs}
 use Rattle.observed.proofs.play_on.Statement.{statement}
 use Rattle.observed.proofs.play_on.Tie as tie

@@ -1,7 +1,7 @@
 use native.Mathlib.Omega.{arith}
 use lib.ListN.{length-take}
-use Rattle.byte_calls.proofs.Fits.{output-zeros}
-use Rattle.byte_calls.proofs.Plays.{carried}
+use Rattle.session.proofs.Plays.{output-zeros}
+use Rattle.session.proofs.Plays.{carried}
 use Rattle.session.proofs.Shows.{shows}
 use borrow.Author.Needs.{needs}
 use Rattle.session.proofs.play.Statement.{statement}

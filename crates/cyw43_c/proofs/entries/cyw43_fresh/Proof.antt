@@ -7,28 +7,14 @@ use Rattle.cyw43_c.proofs.entries.cyw43_fresh.Tie as tie
 returns : tie.Need-returns
 returns c = rw (ne-eqb _ _ (c .if1 .taken)) (refl, refl)
 
-fresh-state-requires : tie.Need-fresh-state-requires
-fresh-state-requires c κs = search needs
-
-fresh-list-requires : tie.Need-fresh-list-requires
-fresh-list-requires c κs = search needs
-
-put-session-requires : tie.Need-put-session-requires
-put-session-requires c κs = search needs
+put-fresh-requires : tie.Need-put-fresh-requires
+put-fresh-requires c κs = search needs
 
 same-length : tie.Need-same-length
 same-length c = search needs
 
 returns-2 : tie.Need-returns-2
-returns-2 c = rw (eq-eqb _ _ (c .before .before .before .before .before .before .if1 .left)) (refl, rw (c .before .before .put-session .ensures .0, c .before .before .before .before .before .fresh-state .ensures, c .before .before .before .before .fresh-list .ensures))
+returns-2 c = rw (eq-eqb _ _ (c .before .before .before .if1 .left)) (refl, c .before .before .put-fresh .ensures .0)
 
 pub cyw43-fresh-spec : {M : Type 1} → statement M
-cyw43-fresh-spec =
-    tie.close
-    (tie.spec
-    returns
-    fresh-state-requires
-    fresh-list-requires
-    put-session-requires
-    same-length
-    returns-2)
+cyw43-fresh-spec = tie.close (tie.spec returns put-fresh-requires same-length returns-2)

@@ -1,3 +1,0 @@
-pub mod Fits
-pub mod Numbered
-pub mod Plays
