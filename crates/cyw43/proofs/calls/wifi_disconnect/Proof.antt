@@ -1,13 +1,10 @@
-use mathlib.Core.Path.{refl}
 use Rattle.jobs.specs.Jobs.{callOf}
-use Rattle.starting.specs.Starting.{isPoll}
 use borrow.Author.Needs.{needs}
 use Rattle.cyw43.proofs.calls.wifi_disconnect.Statement.{statement}
 use Rattle.cyw43.proofs.calls.wifi_disconnect.Tie as tie
 
 plain-requires : tie.Need-plain-requires
-unfolding isPoll
-plain-requires c κs = refl
+plain-requires c κs = search needs
 
 same-length : tie.Need-same-length
 same-length c = search needs

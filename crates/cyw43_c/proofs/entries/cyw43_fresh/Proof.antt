@@ -14,7 +14,7 @@ same-length : tie.Need-same-length
 same-length c = search needs
 
 returns-2 : tie.Need-returns-2
-returns-2 c = rw (eq-eqb _ _ (c .before .before .before .if1 .left)) (refl, c .before .before .put-fresh .ensures .0)
+returns-2 c = rw (eq-eqb _ _ (c .before .before .before .before .if1 .left)) (refl, c .before .before .put-fresh .ensures .0)
 
 pub cyw43-fresh-spec : {M : Type 1} → statement M
 cyw43-fresh-spec = tie.close (tie.spec returns put-fresh-requires same-length returns-2)

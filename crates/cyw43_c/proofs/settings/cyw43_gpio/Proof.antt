@@ -1,16 +1,10 @@
-use mathlib.Core.Path.{refl}
 use Rattle.jobs.specs.Jobs.{callOf}
-use Rattle.starting.specs.Starting.{isPoll}
 use borrow.Author.Needs.{needs}
 use Rattle.cyw43_c.proofs.settings.cyw43_gpio.Statement.{statement}
 use Rattle.cyw43_c.proofs.settings.cyw43_gpio.Tie as tie
-use Rattle.cyw43_c.proofs.settings.cyw43_gpio.Reads as reads
-use Rattle.cyw43_c.proofs.settings.cyw43_gpio.Lts as lts
-use Rattle.entering.proofs.exchange_entry.plain_entered.Reads as plain-entered-reads
 
 plain-entered-requires : tie.Need-plain-entered-requires
-unfolding isPoll
-plain-entered-requires c κs = refl
+plain-entered-requires c κs = search needs
 
 same-length : tie.Need-same-length
 same-length c = search needs
