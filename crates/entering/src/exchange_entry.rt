@@ -5,7 +5,7 @@ use jobs::PlainCall;
 use runs::exchanges::run_join;
 use runs::exchanges::run_plain;
 use runs::exchanges::run_variable;
-use session_bytes::session::is_session;
+use session_form::is_session;
 ghost use mathlib.Core.Path.{_≡_};
 ghost use mathlib.Core.Bool.{true, false};
 ghost use mathlib.Core.List.{[]};

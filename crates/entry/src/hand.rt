@@ -1,6 +1,6 @@
 // What an entry hands back.
 use going::StateEnd;
-use session_bytes::session::put_state_in;
+use session_write::put_state_in;
 use wlan::numbers::refusal_of;
 use wlan::numbers::value_of;
 ghost use mathlib.Core.Path.{_≡_};

@@ -1,6 +1,6 @@
 // What the player prints of a call, as bytes.
-use places::read::sdpcm_at;
-use places::read::wifi_at;
+use places_read::sdpcm_at;
+use places_read::wifi_at;
 use run_end::RunEnd;
 use run_end::outcome::refusal_number;
 use state_bytes::numbers::state_number;

@@ -1,7 +1,7 @@
 // An answer to a poll of the device, on a session's bytes; buf has what it left. What is handed on is flat, a kind beside plain numbers:
 // a compiler keeps that in registers.
-use places::read::sdpcm_at;
 use places::write::put_sdpcm;
+use places_read::sdpcm_at;
 use rx::Packet;
 use rx::PacketKind;
 use rx::blank;

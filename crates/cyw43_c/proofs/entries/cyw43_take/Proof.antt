@@ -2,7 +2,6 @@ use mathlib.Core.Path.{sym, _∙_}
 use lib.ListN.{length}
 use Rattle.definition.specs.Calls.{Call}
 use Rattle.session_bytes.specs.Session.{sessionIn}
-use Rattle.session_bytes.proofs.Laws.{session-length}
 use Rattle.entry.proofs.Laws.{entered-known, entered-none}
 use borrow.Author.Needs.{needs}
 use Rattle.cyw43_c.proofs.entries.cyw43_take.Statement.{statement}
@@ -12,7 +11,7 @@ is-session-requires : tie.Need-is-session-requires
 is-session-requires c κs = search needs
 
 state-in-requires : tie.Need-state-in-requires
-state-in-requires c κs = session-length (c .before .before .before .before .before .before .before .before .args .session .now) (sym (c .before .before .is-session .ensures) ∙ c .before .if1 .taken)
+state-in-requires c κs = sym (c .before .before .is-session .ensures) ∙ c .before .if1 .taken
 
 take-requires : tie.Need-take-requires
 take-requires c κs = search needs

@@ -10,7 +10,7 @@ use Rattle.entering.proofs.exchange_entry.join_entered.Reads as reads
 use Rattle.entering.proofs.exchange_entry.join_entered.Lts as lts
 use Rattle.entering.proofs.exchange_entry.join_here.Reads as join-here-reads
 use Rattle.entering.proofs.other_length.Reads as other-length-reads
-use Rattle.session_bytes.proofs.session.is_session.Reads as is-session-reads
+use Rattle.session_form.proofs.is_session.Reads as is-session-reads
 
 is-session-requires : tie.Need-is-session-requires
 is-session-requires c κs = search needs
