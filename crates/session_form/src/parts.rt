@@ -1,5 +1,5 @@
 // Whether bytes are a state's: each part is tested where it lies.
-use state_bytes::numbers::quad;
+use words::quad;
 ghost use mathlib.Core.Path.{_≡_};
 ghost use mathlib.Core.List.{[], _∷_};
 ghost use lib.ListN.{length, take, drop};

@@ -1,11 +1,11 @@
 // What is there or not as numbers: a tag, 0 for none, and fields, 0 where there are none.
 use crate::numbers::unsigned32;
+use signed::signed32;
 use wlan::PendingBuf;
 use wlan::PendingIoctlResp;
 use wlan::PendingResp;
 use wlan::PendingRx;
 use wlan::StartedTick;
-use words::signed32;
 ghost use mathlib.Core.Path.{_≡_};
 ghost use Rattle.slices.specs.Le.{signed32};
 ghost use Rattle.state_bytes.specs.Parts as to;
