@@ -3,7 +3,7 @@ use crate::hand;
 use crate::other_length;
 use jobs::ExchangeCall;
 use runs::exchanges::run_exchanges;
-use session_bytes::session::is_session;
+use session_form::is_session;
 ghost use mathlib.Core.Path.{_≡_};
 ghost use mathlib.Core.Bool.{true};
 ghost use mathlib.Core.List.{[]};

@@ -62,7 +62,7 @@ pub fn scan_result(e: [u8; 140]) -> ScanRecord
         bssid: bssid,
         ssid_len: n,
         channel: e[132],
-        rssi: words::signed16(words::get_le16(&e, 138)),
+        rssi: signed::signed16(words::get_le16(&e, 138)),
     }
 }
 

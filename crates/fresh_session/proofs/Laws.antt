@@ -12,7 +12,8 @@ use Rattle.wlan.specs.State.{fresh}
 use Rattle.definition.specs.Player.{emptyList, stateNumber}
 use Rattle.definition.specs.Join.{authOf}
 use Rattle.state_bytes.specs.Numbers.{bit, wifiOf, authNumber, unsigned16}
-use Rattle.state_bytes.specs.Parts.{replyParts, replyOf, frameParts, frameOf, failureParts, failureOf, tickParts, tickOf}
+use Rattle.connect_failure.specs.Parts.{failureParts, failureOf}
+use Rattle.state_bytes.specs.Parts.{replyParts, replyOf, frameParts, frameOf, tickParts, tickOf}
 use Rattle.state_bytes.specs.StateBytes.{frontBytes, pendingBytes, linkBytes, stateBytes, sdpcmIn, replyIn, frameIn, pendingIn, failureIn, tickIn, linkIn, marksIn, stateIn}
 use Rattle.session_bytes.specs.ListBytes.{tailBytes, recordBytes, recordsBytes, listBytes, listIn, EachWhole}
 use Rattle.session_bytes.specs.Session.{sessionBytes, sessionIn, isSession}

@@ -78,7 +78,7 @@ fn read_bytes(b: &mut [u8]) -> bool {
 // The same for words; bytes: room for theirs.
 fn read_packed(words: &mut [u32], bytes: &mut [u8]) -> bool {
     let whole = read_bytes(bytes);
-    words::pack(words, 0, bytes);
+    packing::pack(words, 0, bytes);
     whole
 }
 

@@ -1,12 +1,12 @@
 // A call's further line.
 use hearing::count_in;
-use places::read::auth_at;
-use places::read::failure_at;
-use places::read::frame_at;
-use places::read::marks_at;
-use places::read::reply_at;
-use places::read::sdpcm_at;
-use places::read::tick_at;
+use places_read::auth_at;
+use places_read::failure_at;
+use places_read::frame_at;
+use places_read::marks_at;
+use places_read::reply_at;
+use places_read::sdpcm_at;
+use places_read::tick_at;
 use run_end::RunEnd;
 use shown::show;
 use shown::sum;

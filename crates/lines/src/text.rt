@@ -1,6 +1,6 @@
 // What the player prints of a call, as bytes.
-use places::read::sdpcm_at;
-use places::read::wifi_at;
+use places_read::sdpcm_at;
+use places_read::wifi_at;
 use run_end::RunEnd;
 use run_end::outcome::refusal_number;
 use state_bytes::numbers::state_number;
@@ -46,7 +46,7 @@ fn put_number(text: &mut [u8], at: usize, n: u64, end: u8) -> usize
     let mut digits = [0u8; 20];
     let k = io::decimal(n, &mut digits);
     slices::copy_over(text, at, &digits[..k]);
-    words::put_byte(text, at + k, end);
+    put_words::put_byte(text, at + k, end);
     at + k + 1
 }
 
@@ -73,7 +73,7 @@ fn put_word(text: &mut [u8], at: usize, w: u32)
     let mut digits = [0u8; 16];
     let k = io::hex(w as u64, 8, &mut digits);
     slices::copy_over(text, at, &digits[..k]);
-    words::put_byte(text, at + k, b'\n');
+    put_words::put_byte(text, at + k, b'\n');
 }
 
 fn put_words(text: &mut [u8], at: usize, log: &[u32]) -> usize

@@ -10,14 +10,14 @@ ghost use Rattle.definition.specs.Request as to;
 fn put_low16(part: &mut [u8], at: usize, n: usize)
     ensures { λ _. ⌜ now (part .exit) ≡ over (now (part .entry)) at (le16 n) ⌝ }
 {
-    words::put_le16(part, at, (n % 65536) as u16);
+    put_words::put_le16(part, at, (n % 65536) as u16);
 }
 
 // The low 32 bits of n, from index at on.
 pub fn put_low32(part: &mut [u8], at: usize, n: usize)
     ensures { λ _. ⌜ now (part .exit) ≡ over (now (part .entry)) at (le32 n) ⌝ }
 {
-    words::put_le32(part, at, (n % 4294967296) as u32);
+    put_words::put_le32(part, at, (n % 4294967296) as u32);
 }
 
 // A variable's name and a zero.
@@ -38,7 +38,7 @@ pub fn put_variable(part: &mut [u8], name: &[u8], bytes: &[u8])
 pub fn put_word(part: &mut [u8], x: u32)
     ensures { λ _. ⌜ now (part .exit) ≡ over (now (part .entry)) 0 (le32 x) ⌝ }
 {
-    words::put_le32(part, 0, x);
+    put_words::put_le32(part, 0, x);
 }
 
 pub fn put_zeros(part: &mut [u8], n: usize)
@@ -66,7 +66,7 @@ pub fn put_key(part: &mut [u8], passphrase: &[u8])
     ensures { λ _. ⌜ now (part .exit) ≡ over (now (part .entry)) 0 ((to.setKey (now (passphrase .entry))) .payload) ⌝ }
 {
     put_low16(part, 0, passphrase.len());
-    words::put_le16(part, 2, 1);
+    put_words::put_le16(part, 2, 1);
     put_filled(part, 4, passphrase, 64);
 }
 

@@ -5,7 +5,6 @@ use mathlib.Core.List.{List, [], _∷_, _++_}
 use Prim.Native.Nat.{ℕ, _+_, _*_, _<_}
 use native.Mathlib.Omega.{arith}
 use lib.ListN.{length, getD, take, drop}
-use lib.Seq.{getD-take, getD-drop}
 use Rattle.slices.specs.Over.{over}
 use Rattle.slices.specs.Le.{le16, le32, le16At, le32At}
 use Rattle.wlan.specs.declared.ConnectFailure.{ConnectFailure}
@@ -21,13 +20,15 @@ use Rattle.wlan.specs.declared.WifiAuth.{WifiAuth}
 use Rattle.wlan.specs.declared.WifiState.{WifiState}
 use Rattle.wlan.specs.State.{withSdpcm, withPending, withScan, withLink, setReply, setFrame, setLinkState, setFailure, setAuth, setTick}
 use Rattle.definition.specs.Player.{stateNumber}
-use Rattle.state_bytes.specs.declared.parts.FailureParts.{FailureParts}
+use Rattle.connect_failure.specs.declared.FailureParts.{FailureParts}
 use Rattle.state_bytes.specs.declared.parts.FrameParts.{FrameParts}
 use Rattle.state_bytes.specs.declared.parts.ReplyParts.{ReplyParts}
 use Rattle.state_bytes.specs.declared.parts.TickParts.{TickParts}
 use Rattle.state_bytes.specs.Numbers.{bit, authNumber}
-use Rattle.state_bytes.specs.Parts.{replyParts, replyOf, frameParts, frameOf, failureParts, failureOf, tickParts, tickOf}
+use Rattle.connect_failure.specs.Parts.{failureParts, failureOf}
+use Rattle.state_bytes.specs.Parts.{replyParts, replyOf, frameParts, frameOf, tickParts, tickOf}
 use Rattle.state_bytes.specs.StateBytes.{frontBytes, replyBytes, frameBytes, pendingBytes, failureBytes, tickBytes, linkBytes, stateBytes, stateIn, sdpcmIn, marksIn, pendingIn, replyIn, frameIn, linkIn, failureIn, tickIn}
+use Rattle.connect_failure.proofs.Laws.{failure-back}
 use Rattle.state_bytes.proofs.Laws as law
 use Rattle.session_bytes.specs.declared.session.Session.{Session}
 use Rattle.session_bytes.specs.ListBytes.{listBytes}
@@ -37,73 +38,6 @@ use Rattle.places.specs.Places as to
 
 pub holds-bytes : {b : List ℕ} {s : Session} → to.Holds b s → b ≡ sessionBytes s
 holds-bytes {b} {s} h = sym (ses.session-form b (h .known)) ∙ ap sessionBytes (h .back)
-
--- ---- where a part is read
-
-part-at : (n k : ℕ) (b : List ℕ) (i : ℕ) → i < n → getD (take n (drop k b)) i 0 ≡ getD b (k + i) 0
-part-at n k b i h = getD-take n (drop k b) i 0 h ∙ getD-drop k b i 0
-
-pub reply-here : (b : List ℕ) → replyIn (take 14 (drop 7 b)) ≡ record { tag = getD b 7 0; offset = le16At b 8; len = le16At b 10; status = le32At b 12 }
-unfolding replyIn
-reply-here b =
-    rw (
-      part-at 14 7 b 0 (omega arith),
-      part-at 14 7 b 1 (omega arith),
-      part-at 14 7 b 2 (omega arith),
-      part-at 14 7 b 3 (omega arith),
-      part-at 14 7 b 4 (omega arith),
-      part-at 14 7 b 5 (omega arith),
-      part-at 14 7 b 6 (omega arith),
-      part-at 14 7 b 7 (omega arith),
-      part-at 14 7 b 8 (omega arith),
-    )
-
-pub frame-here : (b : List ℕ) → frameIn (take 14 (drop 7 b)) ≡ record { tag = getD b 16 0; offset = le16At b 17; len = le16At b 19 }
-unfolding frameIn
-frame-here b =
-    rw (
-      part-at 14 7 b 9 (omega arith),
-      part-at 14 7 b 10 (omega arith),
-      part-at 14 7 b 11 (omega arith),
-      part-at 14 7 b 12 (omega arith),
-      part-at 14 7 b 13 (omega arith),
-    )
-
-pub state-here : (b : List ℕ) → getD (take 20 (drop 21 b)) 0 0 ≡ getD b 21 0
-state-here b = part-at 20 21 b 0 (omega arith)
-
-pub auth-here : (b : List ℕ) → getD (take 20 (drop 21 b)) 1 0 ≡ getD b 22 0
-auth-here b = part-at 20 21 b 1 (omega arith)
-
-pub failure-here : (b : List ℕ) → failureIn (take 20 (drop 21 b)) ≡ record { tag = getD b 23 0; status = le32At b 24; reason = le32At b 28 }
-unfolding failureIn
-failure-here b =
-    rw (
-      part-at 20 21 b 2 (omega arith),
-      part-at 20 21 b 3 (omega arith),
-      part-at 20 21 b 4 (omega arith),
-      part-at 20 21 b 5 (omega arith),
-      part-at 20 21 b 6 (omega arith),
-      part-at 20 21 b 7 (omega arith),
-      part-at 20 21 b 8 (omega arith),
-      part-at 20 21 b 9 (omega arith),
-      part-at 20 21 b 10 (omega arith),
-    )
-
-pub tick-here : (b : List ℕ) → tickIn (take 20 (drop 21 b)) ≡ record { tag = getD b 32 0; tick = le32At b 33 + 4294967296 * le32At b 37 }
-unfolding tickIn
-tick-here b =
-    rw (
-      part-at 20 21 b 11 (omega arith),
-      part-at 20 21 b 12 (omega arith),
-      part-at 20 21 b 13 (omega arith),
-      part-at 20 21 b 14 (omega arith),
-      part-at 20 21 b 15 (omega arith),
-      part-at 20 21 b 16 (omega arith),
-      part-at 20 21 b 17 (omega arith),
-      part-at 20 21 b 18 (omega arith),
-      part-at 20 21 b 19 (omega arith),
-    )
 
 -- ---- a part that is laid
 
@@ -199,7 +133,7 @@ module _ (b : List ℕ) (h : isSession b ≡ true) where
   unfolding sessionBytes stateBytes frontBytes pendingBytes linkBytes listBytes over
   failure-put x f ef i j e =
       holds (withLink s (setFailure (s .link) x)) (rw (← ef) (over-form 23 _ e))
-      (law.state-back (withLink s (setFailure (s .link) x)) pending-kept (link-back (setFailure (s .link) x) (rw (← ef, law.failure-in-is _ _ f _ i j, ef, law.failure-back x)) (tick-kept _ _ _)))
+      (law.state-back (withLink s (setFailure (s .link) x)) pending-kept (link-back (setFailure (s .link) x) (rw (← ef, law.failure-in-is _ _ f _ i j, ef, failure-back x)) (tick-kept _ _ _)))
 
   pub tick-put : {d : List ℕ} (x : StartedTick) (t : TickParts) → t ≡ tickParts x → t .tick < 18446744073709551616 → d ≡ over b 32 (tickBytes t) → to.Holds d (to.tickPut b x)
   unfolding sessionBytes stateBytes frontBytes pendingBytes linkBytes listBytes over

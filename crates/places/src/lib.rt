@@ -1,3 +1,2 @@
-// The parts of a session where they lie in its 1,393 bytes. A part is read by value, and laid over its own bytes alone.
-pub mod read;
+// The parts of a session, each laid over its own bytes alone.
 pub mod write;

@@ -1,13 +1,13 @@
 // A part laid over its bytes; all others stay.
+use connect_failure::failure_parts;
 use session_bytes::list::put_whole;
+use state_bytes::link::link_bytes;
 use state_bytes::numbers::auth_number;
 use state_bytes::numbers::bit;
 use state_bytes::numbers::state_number;
-use state_bytes::parts::failure_parts;
 use state_bytes::parts::frame_parts;
 use state_bytes::parts::reply_parts;
 use state_bytes::parts::tick_parts;
-use state_bytes::state::link_bytes;
 use wlan::ConnectFailure;
 use wlan::Link;
 use wlan::PendingResp;
@@ -98,17 +98,17 @@ pub fn put_failure(s: &mut [u8], x: ConnectFailure)
     requires { ⌜ isSession (now s) ≡ true ⌝ }
     ensures { λ _. ⌜ to.Holds (now (s .exit)) (to.failurePut (now (s .entry)) x) ⌝ }
 {
-    let p = failure_parts(x);
+    let f = failure_parts(x);
     let b = [
-        p.tag,
-        (p.status % 256) as u8,
-        (p.status / 256 % 256) as u8,
-        (p.status / 65536 % 256) as u8,
-        (p.status / 16777216 % 256) as u8,
-        (p.reason % 256) as u8,
-        (p.reason / 256 % 256) as u8,
-        (p.reason / 65536 % 256) as u8,
-        (p.reason / 16777216 % 256) as u8,
+        f.tag,
+        (f.status % 256) as u8,
+        (f.status / 256 % 256) as u8,
+        (f.status / 65536 % 256) as u8,
+        (f.status / 16777216 % 256) as u8,
+        (f.reason % 256) as u8,
+        (f.reason / 256 % 256) as u8,
+        (f.reason / 65536 % 256) as u8,
+        (f.reason / 16777216 % 256) as u8,
     ];
     put_whole(s, 23, &b);
 }

@@ -3,7 +3,7 @@ use asking::Asked;
 use asking::ask_interrupt;
 use asking::ask_status;
 use asking::ask_tick;
-use places::read::sdpcm_at;
+use places_read::sdpcm_at;
 use polls::NowKind;
 use polls::PollNow;
 use polls::first_read;

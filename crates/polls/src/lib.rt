@@ -1,15 +1,15 @@
 // `poll` on a session's bytes: what it does with an answer. buf has what the answer left.
 use arriving::handle_async_event;
 use handling::link::released;
-use places::read::failure_at;
-use places::read::link_at;
-use places::read::sdpcm_at;
-use places::read::tick_at;
-use places::read::wifi_at;
 use places::write::put_failure;
 use places::write::put_frame;
 use places::write::put_link;
 use places::write::put_sdpcm;
+use places_read::failure_at;
+use places_read::link_at;
+use places_read::sdpcm_at;
+use places_read::tick_at;
+use places_read::wifi_at;
 use receive::polled::PollAt;
 use receive::polled::PollKind;
 use receive::polled::Polled;

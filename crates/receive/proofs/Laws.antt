@@ -14,9 +14,10 @@ use Rattle.wlan.specs.declared.RxPacket.{RxPacket}
 use Rattle.wlan.specs.declared.Sdpcm.{Sdpcm}
 use Rattle.definition.specs.Bus.{Bytes}
 use Rattle.definition.specs.Event.{linkAfter}
-use Rattle.rx.specs.declared.PacketKind.{PacketKind}
+use Rattle.rx_payload.specs.declared.PacketKind.{PacketKind}
 use Rattle.rx.specs.declared.Processed.{Processed}
-use Rattle.rx.specs.Packets.{receivedBy, receivedOf, rxOf}
+use Rattle.rx.specs.Packets.{rxOf}
+use Rattle.rx_payload.specs.Packets.{receivedBy, receivedOf}
 use Rattle.device.specs.declared.PollPoint.{PollPoint}
 use Rattle.device.specs.declared.PollStep.{PollStep}
 use Rattle.device.specs.Poll.{pollOp, pollAnswer, step, gotStep, receivedStep}

@@ -15,7 +15,7 @@ use Rattle.wlan.specs.declared.Sdpcm.{Sdpcm}
 use Rattle.wlan.specs.declared.SdpcmPacket.{SdpcmPacket}
 use Rattle.definition.specs.Bus.{Bytes}
 use Rattle.definition.specs.Event.{eventOf}
-use Rattle.rx.specs.declared.PacketKind.{PacketKind}
+use Rattle.rx_payload.specs.declared.PacketKind.{PacketKind}
 use Rattle.device.specs.declared.PollNext.{PollNext}
 use Rattle.device.specs.declared.PollPoint.{PollPoint}
 use Rattle.device.specs.declared.PollStep.{PollStep}

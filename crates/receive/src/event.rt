@@ -1,9 +1,9 @@
 // What an event does to the state.
 use events::event::read_event;
 use handling::link::link_after;
-use places::read::link_at;
 use places::write::put_link;
 use places::write::put_marks;
+use places_read::link_at;
 use wlan::AsyncEvent;
 use wlan::ScanMarks;
 use wlan::ScanRecord;

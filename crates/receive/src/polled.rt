@@ -1,11 +1,11 @@
 // An answer to a poll of the device, on a session's bytes; buf has what it left. What is handed on is flat, a kind beside plain numbers:
 // a compiler keeps that in registers.
-use places::read::sdpcm_at;
 use places::write::put_sdpcm;
-use rx::Packet;
-use rx::PacketKind;
-use rx::blank;
+use places_read::sdpcm_at;
 use rx::sdpcm_process_rx_packet;
+use rx_header::blank;
+use rx_payload::Packet;
+use rx_payload::PacketKind;
 use sdpcm::status::f2_available;
 use sdpcm::status::has_packet;
 use sdpcm::status::pending;
@@ -19,7 +19,7 @@ ghost use Rattle.wlan.specs.State.{setMark};
 ghost use Rattle.wlan.specs.declared.BusAnswer.{BusAnswer};
 ghost use Rattle.wlan.specs.declared.Sdpcm.{Sdpcm};
 ghost use Rattle.wlan.specs.declared.SdpcmPacket as packet;
-ghost use Rattle.rx.specs.Packets.{receivedOf};
+ghost use Rattle.rx_payload.specs.Packets.{receivedOf};
 ghost use Rattle.device.specs.declared.PollNext as next;
 ghost use Rattle.device.specs.Poll as to;
 ghost use Rattle.device.specs.Meaning.{arrivalOf};

@@ -1,10 +1,10 @@
 // `do_ioctl` on a session's bytes: its beginning, and its step at any point. buf has what an answer left; the send lays its header there.
 use arriving::handle_async_event;
 use ioctl::out_of;
-use places::read::reply_at;
-use places::read::sdpcm_at;
 use places::write::put_reply;
 use places::write::put_sdpcm;
+use places_read::reply_at;
+use places_read::sdpcm_at;
 use receive::polled::PollAt;
 use receive::polled::PollKind;
 use receive::polled::Polled;

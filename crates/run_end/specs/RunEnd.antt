@@ -11,8 +11,8 @@ use Rattle.wlan.specs.declared.Refusal.{Refusal}
 use Rattle.wlan.specs.declared.Success.{Success}
 use Rattle.wlan.specs.declared.WlanPollResult.{WlanPollResult}
 use Rattle.wlan.specs.Outcome.{pollValue, refusalValue, valueOf}
-use Rattle.state_bytes.specs.declared.parts.FailureParts.{FailureParts}
-use Rattle.state_bytes.specs.Parts.{failureParts}
+use Rattle.connect_failure.specs.declared.FailureParts.{FailureParts}
+use Rattle.connect_failure.specs.Parts.{failureParts}
 use Rattle.run_end.specs.declared.EndKind.{EndKind}
 use Rattle.run_end.specs.declared.PollReport.{PollReport}
 use Rattle.run_end.specs.declared.RunEnd.{RunEnd}

@@ -1,8 +1,8 @@
 // How a call ended, as numbers that go through no memory in pieces; its outcome from them.
 pub mod outcome;
 
-use state_bytes::parts::FailureParts;
-use state_bytes::parts::failure_parts;
+use connect_failure::FailureParts;
+use connect_failure::failure_parts;
 use wlan::ConnectFailure;
 use wlan::DriverError;
 use wlan::Success;
@@ -14,7 +14,7 @@ ghost use Rattle.wlan.specs.declared.DriverError.{DriverError};
 ghost use Rattle.wlan.specs.declared.Outcome.{Outcome};
 ghost use Rattle.wlan.specs.declared.Refusal.{Refusal};
 ghost use Rattle.wlan.specs.declared.Success.{Success};
-ghost use Rattle.state_bytes.specs.Parts.{failureParts};
+ghost use Rattle.connect_failure.specs.Parts.{failureParts};
 ghost use Rattle.run_end.specs.declared.EndKind.{EndKind};
 ghost use Rattle.run_end.specs.RunEnd as to;
 

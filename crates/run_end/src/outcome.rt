@@ -1,7 +1,7 @@
 // The outcome that the numbers tell, for who takes it by value.
 use crate::EndKind;
 use crate::RunEnd;
-use state_bytes::parts::failure_of;
+use connect_failure::failure_of;
 use wlan::ConnectFailure;
 use wlan::DriverError;
 use wlan::Outcome;

@@ -2,8 +2,8 @@
 // nothing is to be put back, and nothing is kept.
 use bus::log::op_words;
 use bus::log::put_op;
-use places::read::sdpcm_at;
 use places::write::put_sdpcm;
+use places_read::sdpcm_at;
 use sdpcm::header::next_seq;
 use sdpcm::header::put_data;
 use sdpcm::header::put_header;

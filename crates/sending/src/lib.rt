@@ -1,8 +1,8 @@
 // `sdpcm_send_common` on a session's bytes: its beginning, and its step at any point. buf has what an answer left; a header is laid
 // there at once, and kept before that.
 use arriving::handle_async_event;
-use places::read::sdpcm_at;
 use places::write::put_sdpcm;
+use places_read::sdpcm_at;
 use receive::polled::PollAt;
 use receive::polled::PollKind;
 use receive::polled::Polled;

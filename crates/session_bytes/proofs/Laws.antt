@@ -26,10 +26,6 @@ use Rattle.session_bytes.specs.Session.{sessionBytes, sessionIn, isSessi
 
 -- ---- a record
 
-pub bssid-at : (p : List ℕ) → 42 ≤ length p → getD p 32 0 ∷ getD p 33 0 ∷ getD p 34 0 ∷ getD p 35 0 ∷ getD p 36 0 ∷ getD p 37 0 ∷ [] ≡ take 6 (drop 32 p)
-bssid-at p h =
-    rw (drop-cons p 32 0 (omega arith), drop-cons p 33 0 (omega arith), drop-cons p 34 0 (omega arith), drop-cons p 35 0 (omega arith), drop-cons p 36 0 (omega arith), drop-cons p 37 0 (omega arith))
-
 pub tail-at : (x y z : List ℕ) (k : ℕ) → length x ≡ 32 → length y ≡ 6 → getD (x ++ (y ++ z)) (38 + k) 0 ≡ getD z k 0
 tail-at x y z k h g =
     let e : 38 + k ≡ length x + (length y + k) = omega arith in
@@ -74,16 +70,7 @@ record-put d at r {t} h k et e₁ e₂ e₃ =
 
 -- ---- records
 
-records-append : (a b : List ScanRecord) → recordsBytes (a ++ b) ≡ recordsBytes a ++ recordsBytes b
-unfolding recordsBytes
-records-append [] b = refl
-records-append (r ∷ a) b = rw (records-append a b, append-assoc (recordBytes r) (recordsBytes a) (recordsBytes b))
-
-records-one : (r : ScanRecord) → recordsBytes (r ∷ []) ≡ recordBytes r
-unfolding recordsBytes
-records-one r = append-nil (recordBytes r)
-
-length-records : (l : List ScanRecord) → EachWhole l → length (recordsBytes l) ≡ 42 * length l
+pub length-records : (l : List ScanRecord) → EachWhole l → length (recordsBytes l) ≡ 42 * length l
 unfolding recordsBytes
 length-records [] w = refl
 length-records (r ∷ l) w = omega (arith, length-append (recordBytes r) (recordsBytes l), w .0 .size, length-records l (w .1))
@@ -92,20 +79,6 @@ records-back : (l : List ScanRecord) → EachWhole l → recordsFrom (length l) 
 unfolding recordsBytes recordsFrom
 records-back [] w = refl
 records-back (r ∷ l) w = rw (w .0 .back (recordsBytes l), drop-at (recordBytes r) (recordsBytes l) 42 (w .0 .size), records-back l (w .1))
-
-each-more : (l : List ScanRecord) (r : ScanRecord) → EachWhole l → Whole r → EachWhole (l ++ (r ∷ []))
-each-more [] r w x = (x, tt)
-each-more (s ∷ l) r w x = (w .0, each-more l r (w .1) x)
-
--- one record more
-pub each-next : (l : List ScanRecord) (i : ℕ) (z : ScanRecord) → i < length l → EachWhole (take i l) → Whole (getD l i z) → EachWhole (take (i + 1) l)
-each-next l i z h w x = rw (add-one, take-suc l i z h) (each-more (take i l) (getD l i z) w x)
-
-pub records-next : {d₀ d e : List ℕ} (l : List ScanRecord) (i : ℕ) (z : ScanRecord) → i < length l → EachWhole (take i l) → Run d₀ 49 (recordsBytes (take i l)) d
-    → e ≡ over d (49 + 42 * i) (recordBytes (getD l i z)) → Run d₀ 49 (recordsBytes (take (i + 1) l)) e
-records-next l i z h w r e =
-    rw (add-one, take-suc l i z h, records-append (take i l) (getD l i z ∷ []), records-one (getD l i z))
-    (run-more (recordBytes (getD l i z)) r (omega (arith, length-records (take i l) w, length-take i l)) e)
 
 pub length-from : (n : ℕ) (p : List ℕ) → length (recordsFrom n p) ≡ n
 unfolding recordsFrom
@@ -121,15 +94,7 @@ getD-from zero p i z h = absurd (omega arith)
 getD-from (suc n) p zero z h = refl
 getD-from (suc n) p (suc i) z h = rw (next-record i, ← drop-drop (42 * i) 42 p) (getD-from n (drop 42 p) i z (omega arith))
 
--- the record i of the part `&p[8 + 42 * i..]`
-pub from-part : (p : List ℕ) (i : ℕ) (z : ScanRecord) → i < 32 → recordOf (take (length p - (8 + 42 * i)) (drop (8 + 42 * i) p)) ≡ getD (recordsFrom 32 (drop 8 p)) i z
-from-part p i z h = rw (part-rest p (8 + 42 * i), ← drop-drop (42 * i) 8 p) (sym (getD-from 32 (drop 8 p) i z h))
-
 -- ---- the list
-
-pub list-put : (d : List ℕ) {d₁ d₂ n : List ℕ} (l : ScanList) → n ≡ le64 (l .count) → d₁ ≡ over d 41 n → d₂ ≡ over d₁ 49 (recordsBytes (l .records)) → d₂ ≡ over d 41 (listBytes l)
-unfolding listBytes
-list-put d l en e₁ e₂ = rw (e₂, e₁, en) (over-append d 41 (le64 (l .count)) (recordsBytes (l .records)))
 
 pub list-size : (l : ScanList) → length (l .records) ≡ 32 → EachWhole (l .records) → length (listBytes l) ≡ 1352
 unfolding listBytes
@@ -155,16 +120,6 @@ session-back s h k =
 pub session-size : (s : Session) → length (listBytes (s .list)) ≡ 1352 → length (sessionBytes s) ≡ 1393
 unfolding sessionBytes
 session-size s h = omega (arith, length-append (stateBytes (s .st)) (listBytes (s .list)), length-state (s .st))
-
-session-over : (d : List ℕ) (s : Session) → over (over d 0 (stateBytes (s .st))) 41 (listBytes (s .list)) ≡ over d 0 (sessionBytes s)
-unfolding sessionBytes
-session-over d s =
-    let a = stateBytes (s .st) in
-    let b = listBytes (s .list) in
-    subst (λ (n : ℕ). over (over d 0 a) n b ≡ over d 0 (a ++ b)) (zero-add (length a) ∙ length-state (s .st)) (over-append d 0 a b)
-
-pub session-put : (d : List ℕ) {d₁ d₂ : List ℕ} (s : Session) → length d ≡ 1393 → length (listBytes (s .list)) ≡ 1352 → d₁ ≡ over d 0 (stateBytes (s .st)) → d₂ ≡ over d₁ 41 (listBytes (s .list)) → d₂ ≡ sessionBytes s
-session-put d s h k e₁ e₂ = rw (e₂, e₁, session-over d s) (over-whole d (sessionBytes s) (omega (arith, session-size s k)))
 
 pub same-refl : (a : List ℕ) → sameBytes a a ≡ true
 unfolding sameBytes

@@ -1,4 +1,3 @@
-// A session, the state and the scan list, as 1,393 bytes.
+// A session, the state and the scan list, as 1,393 bytes: what they mean, and a record's.
 pub mod list;
-pub mod parts;
 pub mod session;

@@ -1,7 +1,7 @@
 // All that a call leaves, as numbers.
 use crate::sum::bits32;
+use connect_failure::failure_of;
 use run_end::RunEnd;
-use state_bytes::parts::failure_of;
 use wlan::ConnectFailure;
 use wlan::PendingResp;
 use wlan::PendingRx;

@@ -1,7 +1,7 @@
 // Sums over what is too long to print.
 use hearing::count_in;
+use signed::signed16;
 use words::get_le16;
-use words::signed16;
 ghost use mathlib.Core.Path.{_≡_};
 ghost use Prim.Native.Nat.{_≤_, _<_, min};
 ghost use lib.ListN.{length};

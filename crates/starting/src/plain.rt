@@ -8,7 +8,7 @@ use control::Ending;
 use control::Stage;
 use jobs::jobs::init_job;
 use jobs::jobs::no_job;
-use places::read::marks_at;
+use places_read::marks_at;
 use requests::IovarName;
 use requests::Request;
 use requests::numbers::is_command;

@@ -15,11 +15,9 @@ use mir.Facts.{toZ-ofZ}
 use Rattle.slices.specs.Over.{over}
 use Rattle.slices.specs.Le.{signed16, signed32}
 use Rattle.slices.proofs.Over.{Run, run-none, run-more}
-use Rattle.wlan.specs.declared.ConnectFailure.{ConnectFailure}
 use Rattle.wlan.specs.declared.Link.{Link}
 use Rattle.wlan.specs.declared.StartedTick.{StartedTick}
 use Rattle.wlan.specs.declared.WifiAuth.{WifiAuth}
-use Rattle.wlan.specs.declared.WifiConnectFailure.{WifiConnectFailure}
 use Rattle.wlan.specs.declared.WifiState.{WifiState}
 use Rattle.wlan.specs.declared.Pending.{Pending}
 use Rattle.wlan.specs.declared.PendingIoctlResp.{PendingIoctlResp}
@@ -32,10 +30,12 @@ use Rattle.definition.specs.Player.{stateNumber}
 use Rattle.definition.specs.Join.{authOf}
 use Rattle.state_bytes.specs.declared.parts.ReplyParts.{ReplyParts}
 use Rattle.state_bytes.specs.declared.parts.FrameParts.{FrameParts}
-use Rattle.state_bytes.specs.declared.parts.FailureParts.{FailureParts}
 use Rattle.state_bytes.specs.declared.parts.TickParts.{TickParts}
+use Rattle.connect_failure.specs.declared.FailureParts.{FailureParts}
+use Rattle.connect_failure.specs.Parts.{failureParts, failureOf}
+use Rattle.connect_failure.proofs.Laws.{failure-back}
 use Rattle.state_bytes.specs.Numbers.{bit, wifiOf, authNumber, unsigned16, unsigned32}
-use Rattle.state_bytes.specs.Parts.{waitingReply, replyParts, replyOf, frameParts, frameOf, failureKind, failureParts, kindOf, failureOf, tickParts, tickOf}
+use Rattle.state_bytes.specs.Parts.{waitingReply, replyParts, replyOf, frameParts, frameOf, tickParts, tickOf}
 use Rattle.state_bytes.specs.StateBytes.{frontBytes, replyBytes, frameBytes, pendingBytes, failureBytes, tickBytes, linkBytes, stateBytes, sdpcmIn, replyIn, frameIn, pendingIn, failureIn, tickIn, linkIn, marksIn, stateIn}
 
 pub bit-back : (b : Bool) → eqb (bit b) 1 ≡ b
@@ -63,17 +63,6 @@ pub frame-back : (r : PendingRx) → frameOf (frameParts r) ≡ r
 unfolding frameOf frameParts
 frame-back PendingRx.None = refl
 frame-back (PendingRx.Some b) = refl
-
-pub failure-back : (f : ConnectFailure) → failureOf (failureParts f) ≡ f
-unfolding failureOf failureParts failureKind kindOf
-failure-back ConnectFailure.None = refl
-failure-back (ConnectFailure.Some (WifiConnectFailure.AuthFailed s r)) = refl
-failure-back (ConnectFailure.Some (WifiConnectFailure.AssocFailed s r)) = refl
-failure-back (ConnectFailure.Some (WifiConnectFailure.SetSsidFailed s r)) = refl
-failure-back (ConnectFailure.Some (WifiConnectFailure.PskFailed s r)) = refl
-failure-back (ConnectFailure.Some (WifiConnectFailure.Pruned s r)) = refl
-failure-back (ConnectFailure.Some (WifiConnectFailure.Deauthenticated r)) = refl
-failure-back (ConnectFailure.Some WifiConnectFailure.Timeout) = refl
 
 pub tick-back : (t : StartedTick) → tickOf (tickParts t) ≡ t
 unfolding tickOf tickParts
@@ -231,12 +220,3 @@ marks-back s m = rw (bit-back (m .«scan_done»), bit-back (m .«scan_in_progres
 pub state-back : (s : State) → pendingIn (pendingBytes (s .pending)) ≡ s .pending → linkIn (linkBytes (s .link)) ≡ s .link → stateIn (stateBytes s) ≡ s
 unfolding stateIn
 state-back s h k = rw (take-front s, take-pending s, take-link s, h, k, sdpcm-back, marks-back)
-
-pub state-put : (d : List ℕ) {d₁ d₂ d₃ : List ℕ} (s : State) {a b c : List ℕ} → a ≡ frontBytes (s .sdpcm) (s .scan) → b ≡ pendingBytes (s .pending) → c ≡ linkBytes (s .link)
-    → length a ≡ 7 → length b ≡ 14 → d₁ ≡ over d 0 a → d₂ ≡ over d₁ 7 b → d₃ ≡ over d₂ 21 c → d₃ ≡ over d 0 (stateBytes s)
-unfolding stateBytes
-state-put d s {a} {b} {c} ea eb ec la lb e₁ e₂ e₃ =
-    let r₁ : Run d 0 a _ = run-more a run-none refl e₁ in
-    let r₂ : Run d 0 (a ++ b) _ = run-more b r₁ (omega (arith, la)) e₂ in
-    let r₃ : Run d 0 ((a ++ b) ++ c) _ = run-more c r₂ (omega (arith, la, lb, length-append a b)) e₃ in
-    rw (← ea, ← eb, ← ec, ← append-assoc a b c) (r₃ .is)

@@ -11,12 +11,13 @@ use Rattle.wlan.specs.declared.Sdpcm.{Sdpcm}
 use Rattle.wlan.specs.declared.State.{State}
 use Rattle.definition.specs.Player.{stateNumber}
 use Rattle.definition.specs.Join.{authOf}
+use Rattle.connect_failure.specs.declared.FailureParts.{FailureParts}
+use Rattle.connect_failure.specs.Parts.{failureParts, failureOf}
 use Rattle.state_bytes.specs.declared.parts.ReplyParts.{ReplyParts}
 use Rattle.state_bytes.specs.declared.parts.FrameParts.{FrameParts}
-use Rattle.state_bytes.specs.declared.parts.FailureParts.{FailureParts}
 use Rattle.state_bytes.specs.declared.parts.TickParts.{TickParts}
 use Rattle.state_bytes.specs.Numbers.{bit, wifiOf, authNumber}
-use Rattle.state_bytes.specs.Parts.{replyParts, replyOf, frameParts, frameOf, failureParts, failureOf, tickParts, tickOf}
+use Rattle.state_bytes.specs.Parts.{replyParts, replyOf, frameParts, frameOf, tickParts, tickOf}
 
 -- ---- bytes
 

@@ -1,4 +1,4 @@
-// The state and the scan list as bytes that a caller keeps between calls.
+// The state as bytes that a caller keeps between calls: what they mean, and what its parts are as numbers.
+pub mod link;
 pub mod numbers;
 pub mod parts;
-pub mod state;

@@ -1,8 +1,7 @@
-// Numbers for what has a few values, signed numbers as unsigned ones, and numbers from le bytes.
+// Numbers for what has a few values, and signed numbers as unsigned ones.
 use wlan::WifiAuth;
 use wlan::WifiState;
 ghost use mathlib.Core.Path.{_≡_};
-ghost use Prim.Native.Nat.{_+_, _*_};
 ghost use lib.Dec.{eqb};
 ghost use Rattle.slices.specs.Le.{signed16, signed32};
 ghost use Rattle.definition.specs.Player.{stateNumber};
@@ -75,16 +74,4 @@ pub fn unsigned32(x: i32) -> u32
     } else {
         x as u32
     }
-}
-
-pub fn pair(a: u8, b: u8) -> u16
-    ensures { λ r. ⌜ r ≡ a + 256 * b ⌝ }
-{
-    a as u16 + 256 * b as u16
-}
-
-pub fn quad(a: u8, b: u8, c: u8, d: u8) -> u32
-    ensures { λ r. ⌜ r ≡ a + 256 * b + 65536 * c + 16777216 * d ⌝ }
-{
-    a as u32 + 256 * b as u32 + 65536 * c as u32 + 16777216 * d as u32
 }

@@ -1,6 +1,6 @@
 // `take` on a session's bytes where they lie. It asks nothing of the bus and leaves the scan list.
-use places::read::frame_at;
 use places::write::put_frame;
+use places_read::frame_at;
 use run_end::EndKind;
 use run_end::RunEnd;
 use run_end::error_end;

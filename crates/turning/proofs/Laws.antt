@@ -15,7 +15,7 @@ use Rattle.wlan.specs.declared.DriverError.{DriverError}
 use Rattle.wlan.specs.declared.Outcome.{Outcome}
 use Rattle.wlan.specs.declared.Refusal.{Refusal}
 use Rattle.wlan.specs.Outcome.{errorValue, refusalValue}
-use Rattle.state_bytes.specs.Parts.{failureParts}
+use Rattle.connect_failure.specs.Parts.{failureParts}
 use Rattle.definition.specs.Bus.{Bytes, Ans, Place, logOf}
 use Rattle.definition.specs.Prog.{World, world, Prog, stop, ret}
 use Rattle.definition.specs.Poll.{Result}

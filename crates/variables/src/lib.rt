@@ -22,9 +22,9 @@ pub fn put_country(part: &mut [u8], c: u32)
     ensures { λ _. ⌜ now (part .exit) ≡ over (now (part .entry)) 0 ((to.country c) .payload) ⌝ }
 {
     put_name(part, b"country");
-    words::put_le32(part, 8, c % 65536);
-    words::put_le32(part, 12, revision(c));
-    words::put_le32(part, 16, c % 65536);
+    put_words::put_le32(part, 8, c % 65536);
+    put_words::put_le32(part, 12, revision(c));
+    put_words::put_le32(part, 16, c % 65536);
 }
 
 // All events but 19, 20, 40, 44, 54 and 71.
@@ -44,7 +44,7 @@ pub fn put_event_messages(part: &mut [u8])
 {
     let mask = event_mask();
     put_name(part, b"bsscfg:event_msgs");
-    words::put_le32(part, 18, 0);
+    put_words::put_le32(part, 18, 0);
     slices::copy_over(part, 22, &mask);
 }
 
@@ -55,8 +55,8 @@ pub fn put_escan(part: &mut [u8])
     let unset = [255u8; 16];
     put_name(part, b"escan");
     // Version; action, and a reserved half word.
-    words::put_le32(part, 6, 1);
-    words::put_le32(part, 10, 1);
+    put_words::put_le32(part, 6, 1);
+    put_words::put_le32(part, 10, 1);
     // SSID length and SSID.
     slices::fill_zero(part, 14, 36);
     // BSSID; BSS type, scan type.

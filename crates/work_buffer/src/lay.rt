@@ -62,14 +62,14 @@ pub fn put_iovar(part: &mut [u8], v: IovarName, x: u32)
     ensures { λ _. ⌜ now (part .exit) ≡ over (now (part .entry)) 0 ((to.iovar (nameOf v) (x ∷ [])) .payload) ⌝ }
 {
     put_iovar_name(part, v);
-    words::put_le32(part, name_len(v) + 1, x);
+    put_words::put_le32(part, name_len(v) + 1, x);
 }
 
 pub fn put_iovar_pair(part: &mut [u8], v: IovarName, x: u32, y: u32)
     ensures { λ _. ⌜ now (part .exit) ≡ over (now (part .entry)) 0 ((to.iovar (nameOf v) (x ∷ y ∷ [])) .payload) ⌝ }
 {
     put_iovar(part, v, x);
-    words::put_le32(part, name_len(v) + 5, y);
+    put_words::put_le32(part, name_len(v) + 5, y);
 }
 
 pub fn lay_payload(part: &mut [u8], r: Request, first: &[u8], second: &[u8])

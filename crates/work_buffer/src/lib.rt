@@ -39,10 +39,10 @@ fn flags(r: Request, id: u8) -> usize
 pub fn put_ioctl_header(buf: &mut [u8], r: Request, first: &[u8], second: &[u8], id: u8)
     ensures { λ _. ⌜ now (buf .exit) ≡ over (now (buf .entry)) 12 (ioctlHeader (requestOf r (now (first .entry)) (now (second .entry))) id) ⌝ }
 {
-    words::put_le32(buf, 12, request_cmd(r));
+    put_words::put_le32(buf, 12, request_cmd(r));
     put_low32(buf, 16, payload_len(r, first, second));
     put_low32(buf, 20, flags(r, id));
-    words::put_le32(buf, 24, 0);
+    put_words::put_le32(buf, 24, 0);
 }
 
 // A reply's n bytes, from offset on, to where the payload was.

@@ -9,7 +9,7 @@ outcome-of-requires : tie.Need-outcome-of-requires
 outcome-of-requires c κs = search needs
 
 state-in-requires : tie.Need-state-in-requires
-state-in-requires c κs = session-length (c .before .before .args .s .now) (c .before .before .pre)
+state-in-requires c κs = c .before .before .pre
 
 list-of-requires : tie.Need-list-of-requires
 list-of-requires c κs = session-length (c .before .before .before .args .s .now) (c .before .before .before .pre)

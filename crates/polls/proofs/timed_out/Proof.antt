@@ -9,7 +9,7 @@ use Rattle.polls.proofs.timed_out.Tie as tie
 use Rattle.polls.proofs.timed_out.Reads as reads
 use Rattle.polls.proofs.timed_out.Lts as lts
 use Rattle.handling.proofs.link.released.Reads as released-reads
-use Rattle.places.proofs.read.link_at.Reads as link-at-reads
+use Rattle.places_read.proofs.link_at.Reads as link-at-reads
 use Rattle.places.proofs.write.put_link.Reads as put-link-reads
 use Rattle.send.proofs.elapsed_us.Reads as elapsed-us-reads
 

@@ -3,7 +3,7 @@ use Rattle.replying.proofs.number.Statement.{statement}
 use Rattle.replying.proofs.number.Tie as tie
 use Rattle.replying.proofs.number.Reads as reads
 use Rattle.replying.proofs.number.Lts as lts
-use Rattle.places.proofs.read.sdpcm_at.Reads as sdpcm-at-reads
+use Rattle.places_read.proofs.sdpcm_at.Reads as sdpcm-at-reads
 use Rattle.places.proofs.write.put_sdpcm.Reads as put-sdpcm-reads
 use Rattle.sdpcm.proofs.header.next_id.Reads as next-id-reads
 

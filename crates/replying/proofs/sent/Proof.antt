@@ -8,7 +8,7 @@ use Rattle.replying.proofs.sent.Statement.{statement}
 use Rattle.replying.proofs.sent.Tie as tie
 use Rattle.replying.proofs.sent.Reads as reads
 use Rattle.replying.proofs.sent.Lts as lts
-use Rattle.places.proofs.read.reply_at.Reads as reply-at-reads
+use Rattle.places_read.proofs.reply_at.Reads as reply-at-reads
 use Rattle.places.proofs.write.put_reply.Reads as put-reply-reads
 use Rattle.replying.proofs.finish_stored.Reads as finish-stored-reads
 use Rattle.replying.proofs.waits.Reads as waits-reads

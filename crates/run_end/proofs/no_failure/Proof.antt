@@ -1,6 +1,6 @@
 use borrow.Author.Needs.{needs}
 use mathlib.Core.Path.{refl}
-use Rattle.state_bytes.specs.Parts.{failureParts}
+use Rattle.connect_failure.specs.Parts.{failureParts}
 use Rattle.run_end.proofs.no_failure.Statement.{statement}
 use Rattle.run_end.proofs.no_failure.Tie as tie
 

@@ -5,7 +5,7 @@ use Rattle.sending.proofs.emit_header.Statement.{statement}
 use Rattle.sending.proofs.emit_header.Tie as tie
 use Rattle.sending.proofs.emit_header.Reads as reads
 use Rattle.sending.proofs.emit_header.Lts as lts
-use Rattle.places.proofs.read.sdpcm_at.Reads as sdpcm-at-reads
+use Rattle.places_read.proofs.sdpcm_at.Reads as sdpcm-at-reads
 use Rattle.places.proofs.write.put_sdpcm.Reads as put-sdpcm-reads
 use Rattle.sdpcm.proofs.header.next_seq.Reads as next-seq-reads
 use Rattle.sending.proofs.lay_header.Reads as lay-header-reads

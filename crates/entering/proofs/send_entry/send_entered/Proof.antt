@@ -9,7 +9,7 @@ use Rattle.entering.proofs.send_entry.send_entered.Reads as reads
 use Rattle.entering.proofs.send_entry.send_entered.Lts as lts
 use Rattle.entering.proofs.other_length.Reads as other-length-reads
 use Rattle.entering.proofs.send_entry.send_here.Reads as send-here-reads
-use Rattle.session_bytes.proofs.session.is_session.Reads as is-session-reads
+use Rattle.session_form.proofs.is_session.Reads as is-session-reads
 
 is-session-requires : tie.Need-is-session-requires
 is-session-requires c κs = search needs

@@ -3,7 +3,7 @@ use Rattle.exchanging.proofs.begin.new_id.Statement.{statement}
 use Rattle.exchanging.proofs.begin.new_id.Tie as tie
 use Rattle.exchanging.proofs.begin.new_id.Reads as reads
 use Rattle.exchanging.proofs.begin.new_id.Lts as lts
-use Rattle.places.proofs.read.sdpcm_at.Reads as sdpcm-at-reads
+use Rattle.places_read.proofs.sdpcm_at.Reads as sdpcm-at-reads
 use Rattle.sdpcm.proofs.header.next_id.Reads as next-id-reads
 
 sdpcm-at-requires : tie.Need-sdpcm-at-requires

@@ -5,7 +5,7 @@ use Rattle.receive.proofs.polled.poll_from.Statement.{statement}
 use Rattle.receive.proofs.polled.poll_from.Tie as tie
 use Rattle.receive.proofs.polled.poll_from.Reads as reads
 use Rattle.receive.proofs.polled.poll_from.Lts as lts
-use Rattle.places.proofs.read.sdpcm_at.Reads as sdpcm-at-reads
+use Rattle.places_read.proofs.sdpcm_at.Reads as sdpcm-at-reads
 
 sdpcm-at-requires : tie.Need-sdpcm-at-requires
 sdpcm-at-requires c κs = search needs

@@ -3,7 +3,7 @@ use Rattle.receive.proofs.polled.unmarked.Statement.{statement}
 use Rattle.receive.proofs.polled.unmarked.Tie as tie
 use Rattle.receive.proofs.polled.unmarked.Reads as reads
 use Rattle.receive.proofs.polled.unmarked.Lts as lts
-use Rattle.places.proofs.read.sdpcm_at.Reads as sdpcm-at-reads
+use Rattle.places_read.proofs.sdpcm_at.Reads as sdpcm-at-reads
 use Rattle.places.proofs.write.put_sdpcm.Reads as put-sdpcm-reads
 use Rattle.receive.proofs.polled.none.Reads as none-reads
 use Rattle.wlan.proofs.setters.set_mark.Reads as set-mark-reads

@@ -1,6 +1,6 @@
 use mathlib.Core.Path.{sym, ap, _∙_}
 use Rattle.wlan.specs.Outcome.{valueOf}
-use Rattle.state_bytes.proofs.Laws.{failure-back}
+use Rattle.connect_failure.proofs.Laws.{failure-back}
 use Rattle.run_end.specs.RunEnd as to
 use Rattle.run_end.proofs.Laws.{outcome-back, small-back}
 use borrow.Author.Needs.{needs}

@@ -4,7 +4,7 @@ use Rattle.send_call.proofs.straight.spend.Statement.{statement}
 use Rattle.send_call.proofs.straight.spend.Tie as tie
 use Rattle.send_call.proofs.straight.spend.Reads as reads
 use Rattle.send_call.proofs.straight.spend.Lts as lts
-use Rattle.places.proofs.read.sdpcm_at.Reads as sdpcm-at-reads
+use Rattle.places_read.proofs.sdpcm_at.Reads as sdpcm-at-reads
 use Rattle.places.proofs.write.put_sdpcm.Reads as put-sdpcm-reads
 use Rattle.sdpcm.proofs.header.next_seq.Reads as next-seq-reads
 

@@ -1,5 +1,5 @@
 use mathlib.Core.Path.{_∙_}
-use Rattle.state_bytes.proofs.Laws.{failure-back}
+use Rattle.connect_failure.proofs.Laws.{failure-back}
 use Rattle.run_end.specs.RunEnd.{failedOf}
 use Rattle.shown.proofs.Reports.{reported-is}
 use borrow.Author.Needs.{needs}
