@@ -16,8 +16,8 @@ use Rattle.wlan.specs.declared.State.{State}
 use Rattle.handling.specs.Handle.{stateAfter, handledOf, listHeard}
 use Rattle.definition.specs.Scan.{heard}
 use Rattle.definition.specs.Event.{eventBytes, eventOf, scanResult, linkAfter, scanAfter, listAfter}
-use Rattle.receive.specs.declared.event.Numbers.{Numbers}
-use Rattle.receive.specs.Receive.{numbersOf, eventWith}
+use Rattle.event_state.specs.declared.Numbers.{Numbers}
+use Rattle.event_state.specs.EventState.{numbersOf, eventWith}
 use Rattle.session_bytes.specs.Session.{isSession, sessionIn, withState}
 use Rattle.session_bytes.proofs.Laws.{session-length}
 use Rattle.places.specs.Places.{Holds}

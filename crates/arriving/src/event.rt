@@ -1,12 +1,12 @@
 // What an event does to a session, its bytes read where they lie in a packet.
+use event_state::Numbers;
+use event_state::event_from;
+use event_state::handle_numbers;
+use event_state::numbers_in;
 use hearing::count_in;
 use hearing::hear_network;
 use hearing::result::add_result;
 use hearing::result::knows_result;
-use receive::event::Numbers;
-use receive::event::event_from;
-use receive::event::handle_numbers;
-use receive::event::numbers_in;
 use undo::keep_records;
 ghost use mathlib.Core.Path.{_≡_};
 ghost use mathlib.Core.Bool.{true, _&&_};

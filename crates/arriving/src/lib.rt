@@ -2,10 +2,10 @@
 pub mod event;
 
 use crate::event::handle_there;
+use event_state::Numbers;
+use event_state::event_from;
+use event_state::handle_numbers;
 use hearing::hear;
-use receive::event::Numbers;
-use receive::event::event_from;
-use receive::event::handle_numbers;
 use undo::keep_records;
 ghost use mathlib.Core.Path.{_≡_};
 ghost use mathlib.Core.Bool.{true};

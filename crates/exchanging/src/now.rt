@@ -2,8 +2,8 @@
 use control::Ending;
 use control::Stage;
 use plans::PauseKind;
-use receive::polled::PollAt;
-use receive::polled::PollKind;
+use poll_points::PollAt;
+use poll_points::PollKind;
 use replying::IoctlAt;
 use replying::IoctlKind;
 use wlan::DriverError;

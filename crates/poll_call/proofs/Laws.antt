@@ -34,13 +34,15 @@ use Rattle.session_bytes.specs.declared.session.Session.{Session}
 use Rattle.session_bytes.specs.Session.{isSession, sessionIn, withState}
 use Rattle.places.specs.Places.{Holds}
 use Rattle.device.specs.declared.PollPoint.{PollPoint}
-use Rattle.receive.specs.Receive.{pointOf, pointBy}
-use Rattle.receive.specs.declared.polled.PollAt.{PollAt}
+use Rattle.poll_points.specs.PollPoints.{pointOf, pointBy}
+use Rattle.poll_points.specs.declared.PollAt.{PollAt}
 use Rattle.going.specs.Onward.{go}
 use Rattle.going.proofs.Going.{go-unroll}
 use Rattle.undo.specs.Undo.{Kept, backSession}
-use Rattle.polls.specs.declared.PollNow.{PollNow}
-use Rattle.polls.specs.Polls.{Gives, NextIs, Quiet, Quiets, Reports, Stepped, firstPoint, listed}
+use Rattle.poll_now.specs.declared.PollNow.{PollNow}
+use Rattle.poll_report.specs.PollReport.{Gives, Quiet, Reports}
+use Rattle.poll_now.specs.PollNow.{NextIs, Quiets}
+use Rattle.polls.specs.Polls.{Stepped, firstPoint, listed}
 use Rattle.polls.proofs.Laws.{front-kept}
 use Rattle.run_end.specs.RunEnd as ending
 use Rattle.turning.specs.Turning as turning

@@ -15,8 +15,8 @@ use Rattle.control.specs.Meaning.{Args, callTree}
 use Rattle.effects.specs.Args.{argsOf}
 use Rattle.jobs.specs.Jobs.{noJob}
 use Rattle.session_bytes.specs.Session.{isSession}
-use Rattle.receive.specs.Receive.{pointOf}
-use Rattle.receive.specs.declared.polled.PollAt.{PollAt}
+use Rattle.poll_points.specs.PollPoints.{pointOf}
+use Rattle.poll_points.specs.declared.PollAt.{PollAt}
 use Rattle.going.specs.Onward.{go}
 use Rattle.undo.specs.Undo.{Kept, backSession}
 use Rattle.asking.specs.declared.Asked.{Asked}

@@ -1,6 +1,6 @@
--- A step that leaves the list, one after a change of the state, and one after an event.
+-- A poll's first answer; a step as it is kept, and one after an event.
 use Prim.Native.Nat.{ℕ, _%_}
-use mathlib.Core.Path.{_≡_, refl, sym, ap, _∙_}
+use mathlib.Core.Path.{_≡_, refl, ap, _∙_}
 use mathlib.Core.Bool.{Bool, true, false}
 use mathlib.Core.List.{List}
 use lib.Bits.{bitAnd}
@@ -8,20 +8,16 @@ use lib.Dec.{eqb}
 use borrow.Author.Tests.{eq-eqb, ne-eqb}
 use Rattle.wlan.specs.declared.AsyncEvent.{AsyncEvent}
 use Rattle.wlan.specs.declared.BusAnswer.{BusAnswer}
-use Rattle.wlan.specs.declared.DriverError.{DriverError}
-use Rattle.wlan.specs.declared.WlanPollResult.{WlanPollResult}
 use Rattle.wlan.specs.declared.State.{State}
+use Rattle.wlan.specs.State.{withSdpcm, setMark}
 use Rattle.device.specs.declared.Arrival.{Arrival}
 use Rattle.device.specs.declared.PollPoint.{PollPoint}
 use Rattle.definition.specs.Device.{pending, unreadable}
 use Rattle.device.specs.Poll.{pollAnswer, valuedStep, interruptStep, readStep, statusStep}
 use Rattle.handling.specs.Handle.{handledOf, listHeard}
-use Rattle.control.specs.declared.Before.{Before}
 use Rattle.control.specs.declared.CallNext.{CallNext}
 use Rattle.control.specs.declared.CallPoint.{CallPoint}
 use Rattle.control.specs.declared.CallStep.{CallStep}
-use Rattle.control.specs.declared.Ending.{Ending}
-use Rattle.control.specs.Steps.{step, layBefore}
 use Rattle.control.specs.Poll as to
 use Rattle.control.specs.Meaning.{listAt}
 use Rattle.session_bytes.specs.declared.session.Session.{Session}
@@ -29,46 +25,14 @@ use Rattle.session_bytes.specs.Session.{isSession, sessionIn, withState}
 use Rattle.session_bytes.proofs.Laws.{session-length}
 use Rattle.places.specs.Places.{Holds}
 use Rattle.hearing.proofs.Laws.{records-kept}
-use Rattle.receive.specs.Receive.{pointOf}
-use Rattle.receive.specs.declared.polled.PollAt.{PollAt}
 use Rattle.undo.specs.Undo.{Kept, backSession}
 use Rattle.undo.proofs.Laws.{front-changed}
 use Rattle.arriving.specs.Arriving.{KeptFor, handledSession}
-use Rattle.run_end.specs.declared.PollReport.{PollReport}
-use Rattle.run_end.specs.RunEnd.{reportOf}
-use Rattle.polls.specs.declared.NowKind.{NowKind}
-use Rattle.polls.specs.declared.PollNow.{PollNow}
-use Rattle.polls.specs.Polls.{Gives, NextBy, NextIs, Quiet, Quiets, Reports, Stepped, unmarked}
-
--- ---- where a poll stands
-
-pub asked : (r : PollNow) {p : PollAt} → r .kind ≡ NowKind.Ask → r .at ≡ p → NextIs r (CallNext.Ask (CallPoint.Poll (pointOf p)))
-unfolding NextBy
-asked r k a = rw (k, a) refl
-
-pub ticked : (r : PollNow) {t : ℕ} → r .kind ≡ NowKind.Tick → r .started ≡ t → NextIs r (CallNext.Ask (CallPoint.PollTick t))
-unfolding NextBy
-ticked r k e = rw (k, e) refl
-
-pub ended : (r : PollNow) {v : PollReport} (n : CallNext) → r .kind ≡ NowKind.Over → r .report ≡ v → Gives n v → NextIs r n
-unfolding NextBy
-ended r n k e g = rw (k, e) g
-
-pub beyond : (r : PollNow) → r .kind ≡ NowKind.HeaderBeyond → NextIs r (CallNext.Refused DriverError.EventHeader)
-unfolding NextBy
-beyond r k = rw k refl
-
-pub polled-gives : (p : WlanPollResult) → Gives (CallNext.Ended (Ending.Polled p)) (reportOf p)
-unfolding Gives
-polled-gives p = refl
-
--- ---- what its step leaves
-
-pub still : {N : CallNext → Type 0} {b : List ℕ} {n : CallNext} {h : Bool} {s : CallStep} → isSession b ≡ true → N n → s ≡ step (sessionIn b .st) h (layBefore Before.None) n → Quiet N b b h s
-still k n e = rw e (record { next = n; held = record { known = k; back = refl }; heard = refl; clear = refl; lay = refl })
-
-pub changed : {N : CallNext → Type 0} {b d : List ℕ} {t : State} {n : CallNext} {h : Bool} {s : CallStep} → Holds d (withState b t) → N n → s ≡ step t h (layBefore Before.None) n → Quiet N b d h s
-changed k n e = rw e (record { next = n; held = k; heard = refl; clear = refl; lay = refl })
+use Rattle.poll_report.specs.PollReport.{Quiet}
+use Rattle.poll_report.proofs.Laws.{still}
+use Rattle.poll_now.specs.declared.PollNow.{PollNow}
+use Rattle.poll_now.specs.PollNow.{NextIs, Quiets}
+use Rattle.polls.specs.Polls.{Stepped}
 
 -- an interrupt that is not 0 is written back
 pub acknowledges : (r : PollNow) (b : List ℕ) (v : ℕ) (a : Arrival) → isSession b ≡ true → (v % 65536 ≡ 0 → ⊥) → NextIs r (CallNext.Ask (CallPoint.Poll (PollPoint.Acknowledge (v % 65536))))
@@ -97,23 +61,13 @@ module _ (b : List ℕ) (v : ℕ) (a : Arrival) where
     unfolding to.pollPoint to.nextStep pollAnswer valuedStep readStep statusStep
     status-packet r k p u n = rw (ne-eqb word 0xffffffff x, p, u) (still k n refl)
 
-    pub status-none : {d : List ℕ} (r : PollNow) → eqb (bitAnd word 0x100) 0 ≡ true → Quiets b d r (to.nothingStep (unmarked (sessionIn b .st))) → Quiets b d r first
+    pub status-none : {d : List ℕ} (r : PollNow) → eqb (bitAnd word 0x100) 0 ≡ true → Quiets b d r (to.nothingStep (withSdpcm (sessionIn b .st) (setMark (sessionIn b .st .sdpcm) false))) → Quiets b d r first
     unfolding to.pollPoint to.nextStep to.packetStep pollAnswer valuedStep readStep statusStep
     status-none r p q = rw (ne-eqb word 0xffffffff x, p) q
-
--- the poll's report, as where it stands
-pub over-now : {b d : List ℕ} {v : PollReport} {s : CallStep} (r : PollNow) → r .kind ≡ NowKind.Over → r .report ≡ v → Reports b d v s → Quiets b d r s
-over-now {b} {d} {v} {s} r k e q = record { next = ended r (s .next) k e (q .next); held = q .held; heard = q .heard; clear = q .clear; lay = q .lay }
 
 -- the state alone changed, so what is kept gives the same
 pub front-kept : (u b : List ℕ) {d : List ℕ} (t : State) → Kept u → isSession b ≡ true → Holds d (withState b t) → backSession u d ≡ backSession u b
 front-kept u b {d} t k h s = front-changed d b k (session-length d (s .known)) (session-length b h) (records-kept b h t s)
-
-pub quiet-moved : {b c d : List ℕ} {t : State} {N : CallNext → Type 0} {h : Bool} (f : State → CallStep) → Holds c (withState b t) → Quiet N c d h (f (sessionIn c .st)) → Quiet N b d h (f t)
-quiet-moved {b} {c} {d} {t} {N} {h} f k q =
-    let e : sessionIn c .st ≡ t = ap (λ (s : Session). s .st) (k .back) in
-    let g : Quiet N c d h (f t) = rw e at q in
-    record { next = g .next; held = record { known = g .held .known; back = rw (k .back) at (g .held .back) }; heard = g .heard; clear = g .clear; lay = g .lay }
 
 pub quiet-stepped : {u b d : List ℕ} {r : PollNow} {s : CallStep} (e : AsyncEvent) → Kept u → isSession b ≡ true → Quiets b d r s → Stepped u u b d r e s
 unfolding listAt listHeard

@@ -1,37 +1,27 @@
 // `poll` on a session's bytes: what it does with an answer. buf has what the answer left.
 use arriving::handle_async_event;
-use handling::link::released;
-use places::write::put_failure;
-use places::write::put_frame;
-use places::write::put_link;
 use places::write::put_sdpcm;
-use places_read::failure_at;
-use places_read::link_at;
 use places_read::sdpcm_at;
-use places_read::tick_at;
-use places_read::wifi_at;
-use receive::polled::PollAt;
-use receive::polled::PollKind;
-use receive::polled::Polled;
-use receive::polled::PolledKind;
-use receive::polled::poll_device;
-use receive::polled::poll_from;
-use receive::stored::store_reply;
-use run_end::PollReport;
-use run_end::failed_join;
+use poll_now::NowKind;
+use poll_now::PollNow;
+use poll_now::asks;
+use poll_now::frame;
+use poll_now::nothing;
+use poll_now::now_at;
+use poll_now::polling;
+use poll_points::PollAt;
+use poll_points::PollKind;
+use poll_points::Polled;
+use poll_points::PolledKind;
+use receive::poll_device;
+use receive::store_reply;
 use run_end::unfailed;
 use sdpcm::status::has_packet;
 use sdpcm::status::pending;
 use sdpcm::status::unreadable;
-use send::elapsed_us;
-use wlan::ConnectFailure;
-use wlan::PendingBuf;
-use wlan::PendingRx;
-use wlan::StartedTick;
-use wlan::WifiState;
 use wlan::setters::set_mark;
 ghost use mathlib.Core.Path.{_≡_};
-ghost use mathlib.Core.Bool.{Bool, true};
+ghost use mathlib.Core.Bool.{true};
 ghost use lib.ListN.{length};
 ghost use Rattle.wlan.specs.declared.AsyncEvent.{AsyncEvent};
 ghost use Rattle.wlan.specs.declared.BusAnswer.{BusAnswer};
@@ -40,138 +30,11 @@ ghost use Rattle.device.specs.declared.PollPoint as point;
 ghost use Rattle.device.specs.Poll.{pollOp};
 ghost use Rattle.device.specs.Meaning.{arrivalAt, Tells};
 ghost use Rattle.control.specs.Poll as to;
-ghost use Rattle.session_bytes.specs.Session.{isSession, sessionIn, withState};
-ghost use Rattle.places.specs.Places.{Holds};
-ghost use Rattle.receive.specs.Receive.{pointOf, nextOf};
+ghost use Rattle.session_bytes.specs.Session.{isSession, sessionIn};
+ghost use Rattle.poll_points.specs.PollPoints.{pointOf, nextOf};
 ghost use Rattle.undo.specs.Undo.{Kept};
-ghost use Rattle.polls.specs.declared.NowKind as now;
+ghost use Rattle.poll_now.specs.PollNow.{Quiets};
 ghost use Rattle.polls.specs.Polls as at;
-
-pub enum NowKind {
-    Ask,
-    Tick,
-    Over,
-    HeaderBeyond,
-}
-
-// Where a poll stands: at an operation of the device's poll, at the tick (started: the disconnect began at this one), or at its end.
-pub struct PollNow {
-    pub kind: NowKind,
-    pub at: PollAt,
-    pub started: u64,
-    pub report: PollReport,
-}
-
-fn now_at(kind: NowKind, started: u64, report: PollReport) -> PollNow
-    ensures { λ r. ⌜ (r .kind ≡ kind) × (r .started ≡ started) × (r .report ≡ report) ⌝ }
-{
-    PollNow {
-        kind: kind,
-        at: PollAt {
-            kind: PollKind::Interrupt,
-            n: 0,
-        },
-        started: started,
-        report: report,
-    }
-}
-
-fn over(report: PollReport) -> PollNow
-    ensures { λ r. ⌜ (r .kind ≡ now.NowKind.Over) × (r .report ≡ report) ⌝ }
-{
-    now_at(NowKind::Over, 0, report)
-}
-
-fn asks(p: PollAt) -> PollNow
-    ensures { λ r. ⌜ (r .kind ≡ now.NowKind.Ask) × (r .at ≡ p) ⌝ }
-{
-    PollNow {
-        kind: NowKind::Ask,
-        at: p,
-        started: 0,
-        report: unfailed(0),
-    }
-}
-
-// A poll of the device begins.
-pub fn polling(s: &[u8]) -> PollNow
-    requires { ⌜ isSession (now s) ≡ true ⌝ }
-    ensures { λ r. ⌜ ((h : Bool) → at.Quiet (at.NextIs r) (now (s .entry)) (now (s .entry)) h (to.pollingStep (sessionIn (now (s .entry)) .st) h)) ⌝ }
-{
-    asks(poll_from(s))
-}
-
-// In Down a failure is reported once.
-fn report_down(s: &mut [u8]) -> PollReport
-    requires { ⌜ isSession (now s) ≡ true ⌝ }
-    ensures { λ r. ⌜ at.Reports (now (s .entry)) (now (s .exit)) r (to.downReport (sessionIn (now (s .entry)) .st) (sessionIn (now (s .entry)) .st .link .«connect_failure»)) ⌝ }
-{
-    let f = failure_at(s);
-    match f {
-        ConnectFailure::None => unfailed(0),
-        ConnectFailure::Some(_) => {
-            put_failure(s, ConnectFailure::None);
-            failed_join(f)
-        }
-    }
-}
-
-// The poll's value at its end.
-fn report(s: &mut [u8]) -> PollReport
-    requires { ⌜ isSession (now s) ≡ true ⌝ }
-    ensures { λ r. ⌜ at.Reports (now (s .entry)) (now (s .exit)) r (to.reportStep (sessionIn (now (s .entry)) .st)) ⌝ }
-{
-    let state = wifi_at(s);
-    match state {
-        WifiState::Down => report_down(s),
-        WifiState::Connecting => unfailed(0),
-        WifiState::Connected => unfailed(0),
-        WifiState::Disconnecting => unfailed(0),
-    }
-}
-
-fn disconnecting(s: &mut [u8]) -> PollNow
-    requires { ⌜ isSession (now s) ≡ true ⌝ }
-    ensures { λ r. ⌜ at.Quiets (now (s .entry)) (now (s .exit)) r (to.tickStep (sessionIn (now (s .entry)) .st) (sessionIn (now (s .entry)) .st .link .«disconnect_started_tick»)) ⌝ }
-{
-    let t = tick_at(s);
-    match t {
-        StartedTick::None => over(report(s)),
-        StartedTick::Some(n) => now_at(NowKind::Tick, n, unfailed(0)),
-    }
-}
-
-// Nothing more is there.
-fn nothing(s: &mut [u8]) -> PollNow
-    requires { ⌜ isSession (now s) ≡ true ⌝ }
-    ensures { λ r. ⌜ at.Quiets (now (s .entry)) (now (s .exit)) r (to.nothingStep (sessionIn (now (s .entry)) .st)) ⌝ }
-{
-    let state = wifi_at(s);
-    match state {
-        WifiState::Down => over(report(s)),
-        WifiState::Connecting => over(report(s)),
-        WifiState::Connected => over(report(s)),
-        WifiState::Disconnecting => disconnecting(s),
-    }
-}
-
-// A frame below 14 bytes is dropped.
-fn frame(s: &mut [u8], offset: u16, len: u16) -> PollNow
-    requires { ⌜ isSession (now s) ≡ true ⌝ }
-    ensures { λ r. ⌜ at.Quiets (now (s .entry)) (now (s .exit)) r (to.frameStep (sessionIn (now (s .entry)) .st) offset len) ⌝ }
-{
-    if len < 14 {
-        return polling(s);
-    }
-    put_frame(
-        s,
-        PendingRx::Some(PendingBuf {
-            offset: offset,
-            len: len,
-        }),
-    );
-    over(unfailed(1))
-}
 
 // What the device's poll came to.
 fn polled(s: &mut [u8], undo: &mut [u8], buf: &[u8], r: Polled) -> PollNow
@@ -201,9 +64,9 @@ fn polled(s: &mut [u8], undo: &mut [u8], buf: &[u8], r: Polled) -> PollNow
 }
 
 // The interrupt was read.
-fn interrupt_read(s: &mut [u8], v: u64) -> PollNow
+fn first_interrupt(s: &mut [u8], v: u64) -> PollNow
     requires { ⌜ isSession (now s) ≡ true ⌝ }
-    ensures { λ r. ⌜ ((a : Arrival) → at.Quiets (now (s .entry)) (now (s .exit)) r (to.pollPoint (sessionIn (now (s .entry)) .st) point.PollPoint.Interrupt (BusAnswer.Value v) a)) ⌝ }
+    ensures { λ r. ⌜ ((a : Arrival) → Quiets (now (s .entry)) (now (s .exit)) r (to.pollPoint (sessionIn (now (s .entry)) .st) point.PollPoint.Interrupt (BusAnswer.Value v) a)) ⌝ }
 {
     let i = (v % 65536) as u16;
     if i == 0 {
@@ -215,19 +78,10 @@ fn interrupt_read(s: &mut [u8], v: u64) -> PollNow
     })
 }
 
-// No packet is there; the mark is cleared.
-fn unmarked(s: &mut [u8]) -> PollNow
-    requires { ⌜ isSession (now s) ≡ true ⌝ }
-    ensures { λ r. ⌜ at.Quiets (now (s .entry)) (now (s .exit)) r (to.nothingStep (at.unmarked (sessionIn (now (s .entry)) .st))) ⌝ }
-{
-    put_sdpcm(s, set_mark(sdpcm_at(s), false));
-    nothing(s)
-}
-
 // The status was read, for the first time.
-fn status_read(s: &mut [u8], v: u64) -> PollNow
+fn first_status(s: &mut [u8], v: u64) -> PollNow
     requires { ⌜ isSession (now s) ≡ true ⌝ }
-    ensures { λ r. ⌜ ((a : Arrival) → at.Quiets (now (s .entry)) (now (s .exit)) r (to.pollPoint (sessionIn (now (s .entry)) .st) (point.PollPoint.Status 999) (BusAnswer.Value v) a)) ⌝ }
+    ensures { λ r. ⌜ ((a : Arrival) → Quiets (now (s .entry)) (now (s .exit)) r (to.pollPoint (sessionIn (now (s .entry)) .st) (point.PollPoint.Status 999) (BusAnswer.Value v) a)) ⌝ }
 {
     let w = (v % 4294967296) as u32;
     if w == 0xffff_ffff {
@@ -248,18 +102,19 @@ fn status_read(s: &mut [u8], v: u64) -> PollNow
             n: pending(w),
         });
     }
-    unmarked(s)
+    put_sdpcm(s, set_mark(sdpcm_at(s), false));
+    nothing(s)
 }
 
 // A poll's first answer; marked: an earlier packet was good, and the status was asked for.
 pub fn first_read(marked: bool, s: &mut [u8], v: u64) -> PollNow
     requires { ⌜ isSession (now s) ≡ true ⌝ }
-    ensures { λ r. ⌜ ((a : Arrival) → at.Quiets (now (s .entry)) (now (s .exit)) r (to.pollPoint (sessionIn (now (s .entry)) .st) (at.firstPoint marked) (BusAnswer.Value v) a)) ⌝ }
+    ensures { λ r. ⌜ ((a : Arrival) → Quiets (now (s .entry)) (now (s .exit)) r (to.pollPoint (sessionIn (now (s .entry)) .st) (at.firstPoint marked) (BusAnswer.Value v) a)) ⌝ }
 {
     if marked {
-        return status_read(s, v);
+        return first_status(s, v);
     }
-    interrupt_read(s, v)
+    first_interrupt(s, v)
 }
 
 // The value of an answer to the operation at p.
@@ -271,24 +126,4 @@ pub fn poll_answer(s: &mut [u8], undo: &mut [u8], buf: &[u8], p: PollAt, v: u64)
 {
     let r = poll_device(s, p, v, buf);
     polled(s, undo, buf, r)
-}
-
-// A disconnect is over after 1,000 ticks.
-fn timed_out(s: &mut [u8], started: u64, tick: u64)
-    requires { ⌜ isSession (now s) ≡ true ⌝ }
-    ensures { λ _. ⌜ Holds (now (s .exit)) (withState (now (s .entry)) (to.timedOutState (sessionIn (now (s .entry)) .st) started tick)) ⌝ }
-{
-    if elapsed_us(started, tick) < 1000 {
-        return;
-    }
-    put_link(s, released(link_at(s)));
-}
-
-// The tick is t; the poll's value.
-pub fn poll_tick(s: &mut [u8], started: u64, t: u64) -> PollReport
-    requires { ⌜ isSession (now s) ≡ true ⌝ }
-    ensures { λ r. ⌜ at.Reports (now (s .entry)) (now (s .exit)) r (to.pollTick (sessionIn (now (s .entry)) .st) started (BusAnswer.Value t)) ⌝ }
-{
-    timed_out(s, started, t);
-    report(s)
 }

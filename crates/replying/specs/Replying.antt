@@ -23,8 +23,8 @@ use Rattle.ioctl.specs.Ioctl.{step, numbering, outOf, sendingStep}
 use Rattle.session_bytes.specs.declared.session.Session.{Session}
 use Rattle.session_bytes.specs.Session.{sessionIn, withState}
 use Rattle.places.specs.Places.{Holds}
-use Rattle.receive.specs.declared.polled.PollAt.{PollAt}
-use Rattle.receive.specs.Receive as poll
+use Rattle.poll_points.specs.declared.PollAt.{PollAt}
+use Rattle.poll_points.specs.PollPoints as poll
 use Rattle.undo.specs.Undo.{Kept, backSession, backBuf}
 use Rattle.sending.specs.declared.SendKind.{SendKind}
 use Rattle.sending.specs.Sending as send

@@ -4,8 +4,8 @@ pub mod straight;
 
 use crate::asks::send_ask;
 use asking::Asked;
-use receive::polled::PollAt;
-use receive::polled::PollKind;
+use poll_points::PollAt;
+use poll_points::PollKind;
 use run_end::RunEnd;
 use run_end::done_end;
 use run_end::error_end;

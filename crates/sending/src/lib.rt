@@ -2,14 +2,13 @@
 // there at once, and kept before that.
 use arriving::handle_async_event;
 use places::write::put_sdpcm;
-use places_read::sdpcm_at;
-use receive::polled::PollAt;
-use receive::polled::PollKind;
-use receive::polled::Polled;
-use receive::polled::PolledKind;
-use receive::polled::poll_device;
-use receive::polled::poll_from;
-use receive::stored::store_reply;
+use poll_points::PollAt;
+use poll_points::PollKind;
+use poll_points::Polled;
+use poll_points::PolledKind;
+use poll_points::poll_from;
+use receive::poll_device;
+use receive::store_reply;
 use sdpcm::header::next_seq;
 use sdpcm::header::put_header;
 use sdpcm::status::f2_ready;
@@ -34,7 +33,7 @@ ghost use Rattle.send.specs.declared.HeaderPut.{HeaderPut};
 ghost use Rattle.send.specs.declared.SendNext as next;
 ghost use Rattle.send.specs.Send as to;
 ghost use Rattle.session_bytes.specs.Session.{isSession, sessionIn};
-ghost use Rattle.receive.specs.Receive as poll;
+ghost use Rattle.poll_points.specs.PollPoints as poll;
 ghost use Rattle.undo.specs.Undo.{Kept};
 ghost use Rattle.sending.specs.Sending as at;
 

@@ -12,7 +12,9 @@ use Rattle.control.specs.declared.CallPoint.{CallPoint}
 use Rattle.control.specs.Steps.{callOp}
 use Rattle.control.specs.Meaning.{callTree, Kc, secretAt}
 use Rattle.session_bytes.specs.Session.{sessionIn}
-use Rattle.polls.specs.Polls.{Gives, NextBy, firstPoint}
+use Rattle.poll_report.specs.PollReport.{Gives}
+use Rattle.poll_now.specs.PollNow.{NextBy}
+use Rattle.polls.specs.Polls.{firstPoint}
 use Rattle.turning.specs.Turning as turning
 use Rattle.turning.proofs.Laws as law
 use Rattle.poll_call.specs.PollCall as to

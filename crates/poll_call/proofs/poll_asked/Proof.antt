@@ -8,7 +8,7 @@ use Rattle.device.specs.Poll.{pollOp}
 use Rattle.control.specs.declared.CallPoint.{CallPoint}
 use Rattle.control.specs.Steps.{callOp}
 use Rattle.control.specs.Meaning.{callTree, Kc, secretAt}
-use Rattle.receive.specs.Receive.{pointOf}
+use Rattle.poll_points.specs.PollPoints.{pointOf}
 use Rattle.asking.specs.Asking.{Grew}
 use Rattle.turning.specs.Turning as turning
 use Rattle.turning.proofs.Laws as law

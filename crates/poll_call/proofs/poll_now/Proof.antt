@@ -5,7 +5,8 @@ use Rattle.wlan.specs.declared.DriverError.{DriverError}
 use Rattle.control.specs.declared.CallNext.{CallNext}
 use Rattle.control.specs.declared.CallPoint.{CallPoint}
 use Rattle.control.specs.Meaning.{callTree}
-use Rattle.polls.specs.Polls.{Gives, NextBy}
+use Rattle.poll_report.specs.PollReport.{Gives}
+use Rattle.poll_now.specs.PollNow.{NextBy}
 use Rattle.turning.proofs.Laws as law
 use Rattle.poll_call.specs.PollCall as to
 use Rattle.poll_call.proofs.Laws.{gives-ends, over-turns, on-turns, front-same}

@@ -4,7 +4,8 @@ use Rattle.device.specs.Poll.{pollOp}
 use Rattle.device.specs.Meaning.{arrivalAt}
 use Rattle.control.specs.Poll.{nextStep, pollPoint}
 use Rattle.session_bytes.specs.Session.{sessionIn}
-use Rattle.receive.specs.Receive.{pointOf, polledAt}
+use Rattle.poll_points.specs.PollPoints.{pointOf}
+use Rattle.receive.specs.Receive.{polledAt}
 use Rattle.receive.proofs.Laws.{polled-tells}
 use Rattle.polls.proofs.Laws.{stepped-moved}
 use borrow.Author.Needs.{needs}
@@ -13,7 +14,7 @@ use Rattle.polls.proofs.poll_answer.Tie as tie
 use Rattle.polls.proofs.poll_answer.Reads as reads
 use Rattle.polls.proofs.poll_answer.Lts as lts
 use Rattle.polls.proofs.polled.Reads as polled-reads
-use Rattle.receive.proofs.polled.poll_device.Reads as poll-device-reads
+use Rattle.receive.proofs.poll_device.Reads as poll-device-reads
 
 poll-device-requires : tie.Need-poll-device-requires
 poll-device-requires c κs = search needs

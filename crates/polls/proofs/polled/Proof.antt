@@ -7,8 +7,10 @@ use Rattle.wlan.specs.declared.State.{State}
 use Rattle.definition.specs.Event.{eventOf}
 use Rattle.device.specs.Meaning.{Tells}
 use Rattle.control.specs.Poll.{pollingStep, packetStep, nextStep}
-use Rattle.receive.specs.Receive.{nextBy}
-use Rattle.polls.proofs.Laws.{asked, beyond, still, quiet-moved, quiet-stepped, heard-stepped}
+use Rattle.poll_points.specs.PollPoints.{nextBy}
+use Rattle.poll_report.proofs.Laws.{still, quiet-moved}
+use Rattle.poll_now.proofs.Laws.{asked, beyond}
+use Rattle.polls.proofs.Laws.{quiet-stepped, heard-stepped}
 use borrow.Author.Needs.{needs}
 use Rattle.polls.proofs.polled.Statement.{statement}
 use Rattle.polls.proofs.polled.Tie as tie

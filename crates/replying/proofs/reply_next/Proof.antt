@@ -8,7 +8,7 @@ use Rattle.definition.specs.Event.{eventOf}
 use Rattle.device.specs.Meaning.{Tells}
 use Rattle.send.specs.declared.HeaderPut.{HeaderPut}
 use Rattle.ioctl.specs.Ioctl.{replyNext, packetStep}
-use Rattle.receive.specs.Receive.{nextBy}
+use Rattle.poll_points.specs.PollPoints.{nextBy}
 use Rattle.replying.specs.Replying.{pointBy}
 use Rattle.replying.proofs.Laws.{still, unlaid, heard}
 use borrow.Author.Needs.{needs}

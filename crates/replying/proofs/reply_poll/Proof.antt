@@ -4,7 +4,8 @@ use Rattle.device.specs.Poll.{pollOp}
 use Rattle.device.specs.Meaning.{arrivalAt}
 use Rattle.ioctl.specs.Ioctl.{replyNext, replyPoll}
 use Rattle.session_bytes.specs.Session.{sessionIn}
-use Rattle.receive.specs.Receive.{pointOf, polledAt}
+use Rattle.poll_points.specs.PollPoints.{pointOf}
+use Rattle.receive.specs.Receive.{polledAt}
 use Rattle.receive.proofs.Laws.{polled-tells}
 use Rattle.replying.proofs.Laws.{moved}
 use borrow.Author.Needs.{needs}
@@ -12,7 +13,7 @@ use Rattle.replying.proofs.reply_poll.Statement.{statement}
 use Rattle.replying.proofs.reply_poll.Tie as tie
 use Rattle.replying.proofs.reply_poll.Reads as reads
 use Rattle.replying.proofs.reply_poll.Lts as lts
-use Rattle.receive.proofs.polled.poll_device.Reads as poll-device-reads
+use Rattle.receive.proofs.poll_device.Reads as poll-device-reads
 use Rattle.replying.proofs.reply_next.Reads as reply-next-reads
 
 poll-device-requires : tie.Need-poll-device-requires

@@ -9,7 +9,7 @@ use Rattle.replying.proofs.test_read.Statement.{statement}
 use Rattle.replying.proofs.test_read.Tie as tie
 use Rattle.replying.proofs.test_read.Reads as reads
 use Rattle.replying.proofs.test_read.Lts as lts
-use Rattle.receive.proofs.polled.poll_from.Reads as poll-from-reads
+use Rattle.poll_points.proofs.poll_from.Reads as poll-from-reads
 use Rattle.replying.proofs.asks.Reads as asks-reads
 use Rattle.replying.proofs.refuse.Reads as refuse-reads
 use Rattle.send.proofs.elapsed_us.Reads as elapsed-us-reads

@@ -8,7 +8,7 @@ use Rattle.device.specs.Meaning.{Tells}
 use Rattle.wlan.specs.declared.State.{State}
 use Rattle.send.specs.declared.HeaderPut.{HeaderPut}
 use Rattle.send.specs.Send.{stallNext, packetStep, pollingStep}
-use Rattle.receive.specs.Receive.{nextBy}
+use Rattle.poll_points.specs.PollPoints.{nextBy}
 use Rattle.sending.specs.Sending.{pointBy}
 use Rattle.sending.proofs.Laws.{still, unheard, moved}
 use borrow.Author.Needs.{needs}

@@ -4,7 +4,8 @@ use Rattle.device.specs.Poll.{pollOp}
 use Rattle.device.specs.Meaning.{arrivalAt}
 use Rattle.send.specs.Send.{stallNext, stallPoll}
 use Rattle.session_bytes.specs.Session.{sessionIn}
-use Rattle.receive.specs.Receive.{pointOf, polledAt}
+use Rattle.poll_points.specs.PollPoints.{pointOf}
+use Rattle.receive.specs.Receive.{polledAt}
 use Rattle.receive.proofs.Laws.{polled-tells}
 use Rattle.sending.proofs.Laws.{moved}
 use borrow.Author.Needs.{needs}
