@@ -1,70 +1,24 @@
 -- What the rest of a recording makes of a call, from where its run stands; b: the session's bytes, a: the call's arguments, x: what the run
 -- comes to.
-use Prim.Native.Nat.{ℕ, _+_, _<_}
+use Prim.Native.Nat.{ℕ}
 use mathlib.Core.Path.{_≡_}
 use mathlib.Core.Bool.{Bool, true, false}
 use mathlib.Core.List.{List}
-use lib.ListN.{length, drop}
-use Rattle.slices.specs.Pick.{pick}
+use lib.ListN.{drop}
 use Rattle.wlan.specs.declared.AsyncEvent.{AsyncEvent}
 use Rattle.wlan.specs.declared.ScanList.{ScanList}
 use Rattle.definition.specs.Bus.{Bytes}
 use Rattle.definition.specs.Prog.{World, world}
 use Rattle.definition.specs.Run.{End}
 use Rattle.handling.specs.Handle.{listHeard}
-use Rattle.send.specs.declared.HeaderPut.{HeaderPut}
-use Rattle.send.specs.Meaning.{laidHeader}
-use Rattle.ioctl.specs.declared.IoctlPoint.{IoctlPoint}
 use Rattle.control.specs.declared.Before.{Before}
-use Rattle.control.specs.declared.CallNext.{CallNext}
-use Rattle.control.specs.declared.CallPoint.{CallPoint}
-use Rattle.control.specs.declared.Stage.{Stage}
-use Rattle.control.specs.Stages.{requestAt, requestLen}
-use Rattle.control.specs.Exchange.{exchangeNext}
-use Rattle.control.specs.Meaning.{Args, lensOf, laidBefore, callTree, callShown}
+use Rattle.control.specs.Meaning.{Args, lensOf, laidBefore, callShown}
 use Rattle.session_bytes.specs.Session.{sessionIn}
 use Rattle.going.specs.Onward.{go}
-use Rattle.asking.specs.Asking.{followed, unlessBack}
-use Rattle.replying.specs.declared.IoctlAt.{IoctlAt}
-use Rattle.replying.specs.declared.IoctlNow.{IoctlNow}
-use Rattle.replying.specs.Replying as reply
 use Rattle.plans.specs.declared.Plan.{Plan}
-use Rattle.plans.specs.Plans.{planned, isAsk}
-use Rattle.turning.specs.Turning.{worldIn, isBack, Ends}
+use Rattle.plans.specs.Plans.{planned}
+use Rattle.turning.specs.Turning.{Ends}
 use Rattle.exchange_call.specs.declared.CallTurned.{CallTurned}
-use Rattle.exchange_call.specs.declared.IoctlTurned.{IoctlTurned}
-
--- ---- an exchange
-
--- stage g of arguments that fit, whose payload is n bytes long
-pub record Fits (a : Args) (g : Stage) (n : ℕ) : Type 0 where
-  pub modest : length (a .first) + length (a .second) < 60000
-  pub len : n ≡ requestLen (requestAt (a .job) g) (lensOf a)
-
--- the run at a point of stage g's exchange
-abbrev pub askedAt : Args → Stage → World → List ℕ → List ℕ → ℕ → ℕ → IoctlAt → List ℕ → Bytes → End
-askedAt a g e rec log pos len p b buf = go e (drop pos rec) log len (callTree a (CallNext.Ask (CallPoint.Exchange g (reply.pointOf p))) (worldIn b buf))
-
--- what follows the exchange's step n is left; its header is laid and what it heard is in the list
-pub record Answered (a : Args) (g : Stage) (e : World) (x : End) (rec : List ℕ) (n : IoctlNow) (pos len : ℕ) (log b : List ℕ) (buf : Bytes) : Type 0 where
-  pub heard : Bool
-  pub header : HeaderPut
-  pub event : AsyncEvent
-  pub under : Bytes
-  pub list : ScanList
-  pub laid : buf ≡ laidHeader (reply.headerIn (reply.nextOf n header)) under
-  pub listed : sessionIn b .list ≡ listHeard heard event list
-  pub on : go e (drop pos rec) log len (callShown a (exchangeNext (a .job) (lensOf a) g (sessionIn b .st) heard (reply.nextOf n header)) event (world (sessionIn b .st) under list)) ≡ x
-
--- or all is to be put back
-abbrev pub Stood : Args → Stage → World → End → List ℕ → IoctlTurned → List ℕ → List ℕ → Bytes → Type 0
-Stood a g e x rec t log b buf = unlessBack (Answered a g e x rec (t .now) (t .asked .pos) (t .asked .len) log b buf) (followed e log (t .asked .len) x (t .asked .back) ≡ x) (t .asked .back)
-
--- it goes on with another operation
-abbrev pub onOf : IoctlTurned → Bool
-onOf t = pick (isBack (t .asked .back)) false (isAsk (t .now .kind))
-
--- ---- a call
 
 -- what the call does next is left; before is laid and what was heard is in the list
 pub record Plans (a : Args) (e : World) (x : End) (rec : List ℕ) (f : Plan) (pos len : ℕ) (log b : List ℕ) (buf : Bytes) : Type 0 where

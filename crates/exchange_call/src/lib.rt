@@ -1,9 +1,4 @@
-// A call's exchanges over its recording, on a session's bytes: a loop for the operations of an exchange, and one for the exchanges.
-pub mod asks;
-
-use crate::asks::ioctl_ask;
-use asking::Asked;
-use asking::Back;
+// A call's exchanges over its recording, on a session's bytes: the loop over the exchanges.
 use asking::ask_clock;
 use asking::ask_tick;
 use asking::ask_wait;
@@ -17,6 +12,7 @@ use exchanging::act::act;
 use exchanging::begin::stage_len;
 use exchanging::now::CallKind;
 use exchanging::now::CallNow;
+use ioctl_call::ioctl_run;
 use plans::PauseKind;
 use plans::Plan;
 use plans::begins;
@@ -26,17 +22,12 @@ use plans::fault_plan;
 use plans::resume_of;
 use plans::tick_plan;
 use replying::IoctlAt;
-use replying::IoctlNow;
-use replying::IoctlNowKind;
-use replying::ioctl_answer;
-use replying::ioctl_fault;
 use run_end::RunEnd;
 use run_end::done_end;
 use run_end::error_end;
 use run_end::success_end;
 use turning::back_end;
 use turning::is_back;
-use wlan::DriverError;
 ghost use mathlib.Core.Path.{_≡_};
 ghost use mathlib.Core.Bool.{true, false};
 ghost use mathlib.Core.List.{List, []};
@@ -47,10 +38,8 @@ ghost use Rattle.definition.specs.Bus.{Bytes};
 ghost use Rattle.definition.specs.Event.{eventOf};
 ghost use Rattle.definition.specs.Prog.{World};
 ghost use Rattle.definition.specs.Run.{End};
-ghost use Rattle.ioctl.specs.Ioctl.{ioctlOp};
 ghost use Rattle.control.specs.declared.CallNext as next;
 ghost use Rattle.control.specs.declared.CallPoint as point;
-ghost use Rattle.control.specs.declared.Stage as stage;
 ghost use Rattle.control.specs.Steps.{pauseNs};
 ghost use Rattle.control.specs.Meaning.{Args, lensOf, callTree, callShown, successOf};
 ghost use Rattle.effects.specs.Args.{argsOf};
@@ -58,158 +47,12 @@ ghost use Rattle.control.specs.Begin.{exchangesStep};
 ghost use Rattle.session_bytes.specs.Session.{isSession, sessionIn};
 ghost use Rattle.going.specs.Onward.{go};
 ghost use Rattle.undo.specs.Undo.{Kept};
-ghost use Rattle.asking.specs.Asking.{Asks, askedOf};
-ghost use Rattle.laying.specs.Laying.{LaidKept};
-ghost use Rattle.replying.specs.Replying.{pointOf};
 ghost use Rattle.plans.specs.Plans as plans;
 ghost use Rattle.exchanging.specs.Exchanging as at;
 ghost use Rattle.run_end.specs.RunEnd as ending;
 ghost use Rattle.turning.specs.Turning as turning;
+ghost use Rattle.ioctl_call.specs.IoctlCall as ioctl;
 ghost use Rattle.exchange_call.specs.ExchangeCall as to;
-
-// ---- an exchange
-
-// Its last step, and what its last operation was answered.
-pub struct IoctlTurned {
-    pub on: bool,
-    pub now: IoctlNow,
-    pub asked: Asked,
-}
-
-fn is_ask(k: IoctlNowKind) -> bool
-    ensures { λ r. ⌜ r ≡ plans.isAsk k ⌝ }
-{
-    match k {
-        IoctlNowKind::Ask => true,
-        IoctlNowKind::Done => false,
-        IoctlNowKind::Refused => false,
-    }
-}
-
-fn ioctl_turned(on: bool, n: IoctlNow, a: Asked) -> IoctlTurned
-    ensures { λ r. ⌜ (r .on ≡ on) × (r .now ≡ n) × (r .asked ≡ a) ⌝ }
-{
-    IoctlTurned {
-        on: on,
-        now: n,
-        asked: a,
-    }
-}
-
-fn answered(n: IoctlNow, a: Asked) -> IoctlTurned
-    ensures { λ r. ⌜ (r .on ≡ plans.isAsk (n .kind)) × (r .now ≡ n) × (r .asked ≡ a) ⌝ }
-{
-    let k = n.kind;
-    ioctl_turned(is_ask(k), n, a)
-}
-
-// Before its first operation.
-fn ioctl_from(p: IoctlAt, pos: usize, len: usize) -> IoctlTurned
-    ensures { λ r. ⌜ (r .on ≡ true) × (r .now .kind ≡ IoctlNowKind.Ask) × (r .now .at ≡ p) × (r .asked ≡ askedOf Back.No false 0 pos len) ⌝ }
-{
-    IoctlTurned {
-        on: true,
-        now: IoctlNow {
-            kind: IoctlNowKind::Ask,
-            at: p,
-            offset: 0,
-            count: 0,
-            error: DriverError::Io,
-        },
-        asked: Asked {
-            back: Back::No,
-            fault: false,
-            value: 0,
-            pos: pos,
-            len: len,
-        },
-    }
-}
-
-// What the operation at p was answered; n: how long the payload is.
-fn ioctl_asked(
-    n: u16,
-    p: IoctlAt,
-    a: Asked,
-    s: &mut [u8],
-    undo: &mut [u8],
-    buf: &mut [u8],
-) -> IoctlTurned
-    requires { ⌜ isSession (now s) ≡ true ⌝ }
-    requires { ⌜ Kept (now undo) ⌝ }
-    requires { ⌜ length (now buf) ≡ 2048 ⌝ }
-    ensures on { λ r. ⌜ ((x : Args) (g : stage.Stage) (rec log₀ log : List ℕ) (pos len : ℕ) (b : Bytes) → to.Fits x g n → Asks (ioctlOp (pointOf p)) rec log₀ log pos len b (now (buf .entry)) a → (e : World) → to.Stood x g e (to.askedAt x g e rec log₀ pos len p (now (s .entry)) b) rec r log (now (s .exit)) (now (buf .exit))) ⌝ }
-    ensures asks { λ r. ⌜ (r .on ≡ to.onOf r) × (r .asked ≡ a) ⌝ }
-    ensures held { λ _. ⌜ isSession (now (s .exit)) ≡ true ⌝ }
-    ensures kept { λ _. ⌜ turning.KeptAll (now (undo .entry)) (now (undo .exit)) (now (s .entry)) (now (s .exit)) (now (buf .entry)) (now (buf .exit)) ⌝ }
-{
-    if is_back(a) {
-        return ioctl_turned(false, ioctl_fault(0), a);
-    }
-    if a.fault {
-        return answered(ioctl_fault((a.value % 256) as u8), a);
-    }
-    answered(ioctl_answer(s, undo, buf, n, p, a.value), a)
-}
-
-// One operation, its answer, and the step that follows.
-fn ioctl_turn(
-    n: u16,
-    p: IoctlAt,
-    pos: usize,
-    len: usize,
-    s: &mut [u8],
-    undo: &mut [u8],
-    rec: &[u32],
-    log: &mut [u32],
-    buf: &mut [u8],
-) -> IoctlTurned
-    requires { ⌜ isSession (now s) ≡ true ⌝ }
-    requires { ⌜ Kept (now undo) ⌝ }
-    requires { ⌜ length (now buf) ≡ 2048 ⌝ }
-    ensures on { λ r. ⌜ ((x : Args) (g : stage.Stage) → to.Fits x g n → (e : World) → to.Stood x g e (to.askedAt x g e (now (rec .entry)) (now (log .entry)) pos len p (now (s .entry)) (now (buf .entry))) (now (rec .entry)) r (now (log .exit)) (now (s .exit)) (now (buf .exit))) ⌝ }
-    ensures asks { λ r. ⌜ r .on ≡ to.onOf r ⌝ }
-    ensures held { λ _. ⌜ isSession (now (s .exit)) ≡ true ⌝ }
-    ensures kept { λ _. ⌜ turning.KeptAll (now (undo .entry)) (now (undo .exit)) (now (s .entry)) (now (s .exit)) (now (buf .entry)) (now (buf .exit)) ⌝ }
-    ensures grew { λ r. ⌜ (turning.isBack (r .asked .back) ≡ false → (len < r .asked .len) × (r .asked .len ≤ length (now (log .entry)))) ⌝ }
-{
-    let a = ioctl_ask(p, pos, len, undo, rec, log, buf);
-    ioctl_asked(n, p, a, s, undo, buf)
-}
-
-// From the operation at p to the exchange's end.
-fn ioctl_run(
-    n: u16,
-    p: IoctlAt,
-    pos: usize,
-    len: usize,
-    s: &mut [u8],
-    undo: &mut [u8],
-    rec: &[u32],
-    log: &mut [u32],
-    buf: &mut [u8],
-) -> IoctlTurned
-    requires { ⌜ isSession (now s) ≡ true ⌝ }
-    requires { ⌜ Kept (now undo) ⌝ }
-    requires { ⌜ length (now buf) ≡ 2048 ⌝ }
-    requires { ⌜ len ≤ length (now log) ⌝ }
-    ensures on { λ r. ⌜ ((x : Args) (g : stage.Stage) → to.Fits x g n → (e : World) → to.Stood x g e (to.askedAt x g e (now (rec .entry)) (now (log .entry)) pos len p (now (s .entry)) (now (buf .entry))) (now (rec .entry)) r (now (log .exit)) (now (s .exit)) (now (buf .exit))) ⌝ }
-    ensures asks { λ r. ⌜ (r .on ≡ false) × (r .on ≡ to.onOf r) ⌝ }
-    ensures held { λ _. ⌜ isSession (now (s .exit)) ≡ true ⌝ }
-    ensures kept { λ _. ⌜ turning.KeptAll (now (undo .entry)) (now (undo .exit)) (now (s .entry)) (now (s .exit)) (now (buf .entry)) (now (buf .exit)) ⌝ }
-    ensures grew { λ r. ⌜ (turning.isBack (r .asked .back) ≡ false → (len < r .asked .len) × (r .asked .len ≤ length (now (log .entry)))) ⌝ }
-{
-    let mut t = ioctl_from(p, pos, len);
-    while t.on {
-        let now = t.now;
-        let at = now.at;
-        let a = t.asked;
-        t = ioctl_turn(n, at, a.pos, a.len, s, undo, rec, log, buf);
-    }
-    t
-}
-
-// ---- a call
 
 // It goes on with a plan, or is over. end.len: how many words are in the log.
 pub struct CallTurned {
@@ -248,24 +91,7 @@ fn ending_end(e: Ending, buf: &[u8], len: usize) -> RunEnd
     success_end(success_of(e, buf), len)
 }
 
-// After stage g's exchange.
-fn exchange_over(j: Job, g: Stage, t: IoctlTurned, undo: &mut [u8], buf: &mut [u8]) -> CallTurned
-    requires { ⌜ Kept (now undo) ⌝ }
-    requires { ⌜ length (now buf) ≡ 2048 ⌝ }
-    requires { ⌜ to.onOf t ≡ false ⌝ }
-    ensures on { λ r. ⌜ ((first second : Bytes) (e : World) (x : End) (rec log b : List ℕ) → to.Stood (argsOf j first second) g e x rec t log b (now (buf .entry)) → to.Turns (argsOf j first second) e x rec r log b (now (buf .exit))) ⌝ }
-    ensures kept { λ _. ⌜ LaidKept (now (undo .entry)) (now (undo .exit)) (now (buf .entry)) (now (buf .exit)) ⌝ }
-    ensures grew { λ r. ⌜ (r .on ≡ true → (turning.isBack (t .asked .back) ≡ false) × (r .end .len ≡ t .asked .len)) ⌝ }
-{
-    let a = t.asked;
-    let n = t.now;
-    if is_back(a) {
-        return over(back_end(a));
-    }
-    onward(exchange_plan(j, g, undo, buf, n), a.pos, a.len)
-}
-
-// Stage g's exchange, from the operation at p on.
+// Stage g's exchange, from the operation at p on, and what follows it.
 fn exchange_turn(
     j: Job,
     l: Lens,
@@ -283,13 +109,18 @@ fn exchange_turn(
     requires { ⌜ Kept (now undo) ⌝ }
     requires { ⌜ length (now buf) ≡ 2048 ⌝ }
     requires { ⌜ len ≤ length (now log) ⌝ }
-    ensures on { λ r. ⌜ ((first second : Bytes) → length first + length second < 60000 → l ≡ lensOf (argsOf j first second) → (e : World) → to.Turns (argsOf j first second) e (to.askedAt (argsOf j first second) g e (now (rec .entry)) (now (log .entry)) pos len p (now (s .entry)) (now (buf .entry))) (now (rec .entry)) r (now (log .exit)) (now (s .exit)) (now (buf .exit))) ⌝ }
+    ensures on { λ r. ⌜ ((first second : Bytes) → length first + length second < 60000 → l ≡ lensOf (argsOf j first second) → (e : World) → to.Turns (argsOf j first second) e (ioctl.askedAt (argsOf j first second) g e (now (rec .entry)) (now (log .entry)) pos len p (now (s .entry)) (now (buf .entry))) (now (rec .entry)) r (now (log .exit)) (now (s .exit)) (now (buf .exit))) ⌝ }
     ensures held { λ _. ⌜ isSession (now (s .exit)) ≡ true ⌝ }
     ensures kept { λ _. ⌜ turning.KeptAll (now (undo .entry)) (now (undo .exit)) (now (s .entry)) (now (s .exit)) (now (buf .entry)) (now (buf .exit)) ⌝ }
     ensures grew { λ r. ⌜ (r .on ≡ true → (len < r .end .len) × (r .end .len ≤ length (now (log .entry)))) ⌝ }
 {
     let t = ioctl_run(stage_len(j, g, l), p, pos, len, s, undo, rec, log, buf);
-    exchange_over(j, g, t, undo, buf)
+    let a = t.asked;
+    let n = t.now;
+    if is_back(a) {
+        return over(back_end(a));
+    }
+    onward(exchange_plan(j, g, undo, buf, n), a.pos, a.len)
 }
 
 fn pause_ns(p: PauseKind, ns: u32) -> u32

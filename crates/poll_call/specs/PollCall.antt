@@ -1,14 +1,12 @@
 -- What the rest of a recording makes of a poll, from where its run stands; b: the session's bytes.
-use Prim.Native.Nat.{ℕ, _<_, _≤_}
+use Prim.Native.Nat.{ℕ}
 use mathlib.Core.Path.{_≡_}
 use mathlib.Core.Bool.{Bool, true, false}
 use mathlib.Core.List.{List, []}
-use lib.ListN.{length, drop}
-use Rattle.wlan.specs.declared.BusAnswer.{BusAnswer}
+use lib.ListN.{drop}
 use Rattle.definition.specs.Bus.{Bytes}
 use Rattle.definition.specs.Prog.{World}
 use Rattle.definition.specs.Run.{End}
-use Rattle.device.specs.Poll.{pollOp}
 use Rattle.control.specs.declared.CallNext.{CallNext}
 use Rattle.control.specs.declared.CallPoint.{CallPoint}
 use Rattle.control.specs.Meaning.{Args, callTree}
@@ -19,8 +17,6 @@ use Rattle.poll_points.specs.PollPoints.{pointOf}
 use Rattle.poll_points.specs.declared.PollAt.{PollAt}
 use Rattle.going.specs.Onward.{go}
 use Rattle.undo.specs.Undo.{Kept, backSession}
-use Rattle.asking.specs.declared.Asked.{Asked}
-use Rattle.asking.specs.Asking.{Asks, Grew}
 use Rattle.turning.specs.Turning.{worldIn, Ends}
 use Rattle.poll_call.specs.declared.PollTurned.{PollTurned}
 
@@ -43,10 +39,3 @@ TurnsBy e x rec r log b buf false = Ends e x (r .end) log b buf
 
 abbrev pub Turns : World → End → List ℕ → PollTurned → List ℕ → List ℕ → Bytes → Type 0
 Turns e x rec r log b buf = TurnsBy e x rec r log b buf (r .on)
-
--- the operation at p was asked
-abbrev pub Asking : PollAt → List ℕ → List ℕ → List ℕ → ℕ → ℕ → Bytes → Bytes → Asked → Type 0
-Asking p rec log log′ pos len b c a = Asks (pollOp (pointOf p)) rec log log′ pos len b c a
-
-abbrev pub Grows : ℕ → ℕ → Asked → Type 0
-Grows room len a = Grew room len a

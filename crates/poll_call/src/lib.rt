@@ -22,22 +22,19 @@ use turning::is_back;
 use wlan::DriverError;
 ghost use mathlib.Core.Path.{_≡_};
 ghost use mathlib.Core.Bool.{true, false};
-ghost use mathlib.Core.List.{List};
-ghost use Prim.Native.Nat.{ℕ, _≤_, _<_};
+ghost use Prim.Native.Nat.{_≤_, _<_};
 ghost use lib.ListN.{length, drop};
-ghost use Rattle.wlan.specs.declared.BusAnswer.{BusAnswer};
-ghost use Rattle.definition.specs.Bus.{Ans, Bytes};
+ghost use Rattle.definition.specs.Bus.{Bytes};
 ghost use Rattle.definition.specs.Prog.{World};
 ghost use Rattle.definition.specs.Run.{End};
 ghost use Rattle.device.specs.Poll.{pollOp, pollStart};
-ghost use Rattle.device.specs.Meaning.{told, landing, InRange};
 ghost use Rattle.control.specs.declared.CallNext as next;
 ghost use Rattle.control.specs.declared.CallPoint as point;
-ghost use Rattle.control.specs.Meaning.{callTree, Kc};
+ghost use Rattle.control.specs.Meaning.{callTree};
 ghost use Rattle.session_bytes.specs.Session.{isSession, sessionIn};
 ghost use Rattle.poll_points.specs.PollPoints.{pointOf};
 ghost use Rattle.going.specs.Onward.{go};
-ghost use Rattle.undo.specs.Undo.{Kept, backSession, backBuf};
+ghost use Rattle.undo.specs.Undo.{Kept};
 ghost use Rattle.asking.specs.Asking.{Asks};
 ghost use Rattle.poll_now.specs.PollNow.{NextIs};
 ghost use Rattle.polls.specs.Polls.{firstPoint};
@@ -125,57 +122,6 @@ fn poll_now(
     }
 }
 
-// The value of an answer to the operation at p. buf has what it left.
-fn poll_valued(
-    p: PollAt,
-    v: u64,
-    pos: usize,
-    len: usize,
-    s: &mut [u8],
-    undo: &mut [u8],
-    rec: &[u32],
-    log: &mut [u32],
-    buf: &[u8],
-) -> PollTurned
-    requires { ⌜ isSession (now s) ≡ true ⌝ }
-    requires { ⌜ Kept (now undo) ⌝ }
-    requires { ⌜ length (now buf) ≡ 2048 ⌝ }
-    ensures on { λ r. ⌜ ((y : Ans) (b : Bytes) → BusAnswer.Value v ≡ told y → InRange (pollOp (pointOf p)) y → now (buf .entry) ≡ landing (pollOp (pointOf p)) y b → (e : World) → to.Turns e (go e (drop pos (now (rec .entry))) (now (log .entry)) len (Kc to.noArgs (point.CallPoint.Poll (pointOf p)) y (turning.worldIn (now (s .entry)) b))) (now (rec .entry)) r (now (log .exit)) (now (s .exit)) (now (buf .entry))) ⌝ }
-    ensures held { λ _. ⌜ isSession (now (s .exit)) ≡ true ⌝ }
-    ensures kept { λ _. ⌜ Kept (now (undo .exit)) × (backSession (now (undo .exit)) (now (s .exit)) ≡ backSession (now (undo .entry)) (now (s .entry))) × ((b : Bytes) → backBuf (now (undo .exit)) b ≡ backBuf (now (undo .entry)) b) ⌝ }
-    ensures grew { λ r. ⌜ (r .on ≡ true → r .end .len ≡ len) ⌝ }
-{
-    let n = poll_answer(s, undo, buf, p, v);
-    poll_now(n, pos, len, s, rec, log)
-}
-
-// What the operation at p was answered.
-fn poll_asked(
-    p: PollAt,
-    a: Asked,
-    s: &mut [u8],
-    undo: &mut [u8],
-    rec: &[u32],
-    log: &mut [u32],
-    buf: &[u8],
-) -> PollTurned
-    requires { ⌜ isSession (now s) ≡ true ⌝ }
-    requires { ⌜ Kept (now undo) ⌝ }
-    requires { ⌜ length (now buf) ≡ 2048 ⌝ }
-    ensures on { λ r. ⌜ ((log₀ : List ℕ) (pos len : ℕ) (b : Bytes) → to.Asking p (now (rec .entry)) log₀ (now (log .entry)) pos len b (now (buf .entry)) a → (e : World) → to.Turns e (go e (drop pos (now (rec .entry))) log₀ len (callTree to.noArgs (next.CallNext.Ask (point.CallPoint.Poll (pointOf p))) (turning.worldIn (now (s .entry)) b))) (now (rec .entry)) r (now (log .exit)) (now (s .exit)) (now (buf .entry))) ⌝ }
-    ensures held { λ _. ⌜ isSession (now (s .exit)) ≡ true ⌝ }
-    ensures kept { λ _. ⌜ Kept (now (undo .exit)) × (backSession (now (undo .exit)) (now (s .exit)) ≡ backSession (now (undo .entry)) (now (s .entry))) × ((b : Bytes) → backBuf (now (undo .exit)) b ≡ backBuf (now (undo .entry)) b) ⌝ }
-    ensures grew { λ r. ⌜ ((room len : ℕ) → to.Grows room len a → r .on ≡ true → (len < r .end .len) × (r .end .len ≤ room)) ⌝ }
-{
-    if is_back(a) {
-        return over(back_end(a));
-    }
-    if a.fault {
-        return over(fault_end(a.value, a.len));
-    }
-    poll_valued(p, a.value, a.pos, a.len, s, undo, rec, log, buf)
-}
-
 // One operation, its answer, and what follows.
 pub fn poll_turn(
     p: PollAt,
@@ -196,7 +142,14 @@ pub fn poll_turn(
     ensures grew { λ r. ⌜ (r .on ≡ true → (len < r .end .len) × (r .end .len ≤ length (now (log .entry)))) ⌝ }
 {
     let a = device_ask(p, pos, len, undo, rec, log, buf);
-    poll_asked(p, a, s, undo, rec, log, buf)
+    if is_back(a) {
+        return over(back_end(a));
+    }
+    if a.fault {
+        return over(fault_end(a.value, a.len));
+    }
+    let n = poll_answer(s, undo, buf, p, a.value);
+    poll_now(n, a.pos, a.len, s, rec, log)
 }
 
 // A poll's first operation; marked: an earlier packet was good.

@@ -4,8 +4,8 @@ use run_end::RunEnd;
 use run_end::done_end;
 use run_end::error_end;
 use send_call::send_run;
-use send_call::straight::goes_straight;
-use send_call::straight::send_straight;
+use straight_send::goes_straight;
+use straight_send::send_straight;
 use turning::settle;
 use undo::keep_front;
 use wlan::DriverError;
@@ -15,7 +15,7 @@ ghost use lib.ListN.{length};
 ghost use Rattle.definition.specs.Calls.{Call, isInterface};
 ghost use Rattle.session_bytes.specs.Session.{isSession};
 ghost use Rattle.undo.specs.Undo.{Kept};
-ghost use Rattle.send_call.specs.Straight.{Straight};
+ghost use Rattle.straight_send.specs.Straight.{Straight};
 ghost use Rattle.runs.specs.Runs as to;
 
 // Arguments that are refused cost no operation.

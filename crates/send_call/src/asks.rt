@@ -31,9 +31,8 @@ pub fn send_ask(
     let k = p.kind;
     let q = p.at;
     match k {
-        SendKind::First => ask_clock(pos, len, rec, log),
+        SendKind::First | SendKind::Late => ask_clock(pos, len, rec, log),
         SendKind::Polling => device_ask(q, pos, len, undo, rec, log, buf),
-        SendKind::Late => ask_clock(pos, len, rec, log),
         SendKind::Waited => ask_wait(100_000, pos, len, log),
         SendKind::Ready => ask_status(pos, len, rec, log),
         SendKind::Writing => ask_write(p.n, pos, len, rec, log, buf),

@@ -1,9 +1,7 @@
 // `send_data` over its recording, on a session's bytes.
 pub mod asks;
-pub mod straight;
 
 use crate::asks::send_ask;
-use asking::Asked;
 use poll_points::PollAt;
 use poll_points::PollKind;
 use run_end::RunEnd;
@@ -27,21 +25,16 @@ ghost use mathlib.Core.List.{List, []};
 ghost use Prim.Native.Nat.{ℕ, _≤_, _<_};
 ghost use lib.ListN.{length, drop};
 ghost use Rattle.slices.specs.Over.{over};
-ghost use Rattle.wlan.specs.declared.BusAnswer.{BusAnswer};
-ghost use Rattle.definition.specs.Bus.{Ans, Bytes};
+ghost use Rattle.definition.specs.Bus.{Bytes};
 ghost use Rattle.definition.specs.Event.{eventOf};
 ghost use Rattle.definition.specs.Packet.{dataPart};
 ghost use Rattle.definition.specs.Prog.{World};
-ghost use Rattle.device.specs.Meaning.{told, landing, InRange};
 ghost use Rattle.definition.specs.Run.{End};
-ghost use Rattle.send.specs.Send.{sendOp};
-ghost use Rattle.control.specs.declared.CallPoint as point;
-ghost use Rattle.control.specs.Meaning.{callShown, callTree, Kc};
+ghost use Rattle.control.specs.Meaning.{callShown, callTree};
 ghost use Rattle.session_bytes.specs.Session.{isSession};
 ghost use Rattle.going.specs.Onward.{go};
 ghost use Rattle.undo.specs.Undo.{Kept};
-ghost use Rattle.asking.specs.Asking.{Asks, Grew};
-ghost use Rattle.sending.specs.Sending.{Covered, pointOf};
+ghost use Rattle.sending.specs.Sending.{Covered};
 ghost use Rattle.turning.specs.Turning as turning;
 ghost use Rattle.send_call.specs.SendCall as to;
 
@@ -108,55 +101,6 @@ fn out_of(size: u16) -> OutPacket
     }
 }
 
-// The value of an answer to the operation at p. buf has what it left.
-fn send_valued(
-    size: u16,
-    p: SendAt,
-    v: u64,
-    pos: usize,
-    len: usize,
-    s: &mut [u8],
-    undo: &mut [u8],
-    buf: &mut [u8],
-) -> SendTurned
-    requires { ⌜ isSession (now s) ≡ true ⌝ }
-    requires { ⌜ Kept (now undo) ⌝ }
-    requires { ⌜ length (now buf) ≡ 2048 ⌝ }
-    ensures on { λ r. ⌜ ((frame : Bytes) (y : Ans) (b : Bytes) → to.Sized frame size → BusAnswer.Value v ≡ told y → InRange (sendOp (pointOf p)) y → now (buf .entry) ≡ landing (sendOp (pointOf p)) y b → (e : World) (rec log : List ℕ) → to.Turns frame e (go e (drop pos rec) log len (Kc (to.argsIn frame) (point.CallPoint.Send (pointOf p)) y (turning.worldIn (now (s .entry)) b))) rec r log (now (s .exit)) (now (buf .exit))) ⌝ }
-    ensures held { λ _. ⌜ isSession (now (s .exit)) ≡ true ⌝ }
-    ensures kept { λ _. ⌜ turning.KeptAll (now (undo .entry)) (now (undo .exit)) (now (s .entry)) (now (s .exit)) (now (buf .entry)) (now (buf .exit)) ⌝ }
-    ensures grew { λ r. ⌜ (r .on ≡ true → r .end .len ≡ len) ⌝ }
-{
-    let n = send_answer(s, undo, buf, out_of(size), p, v);
-    send_now(n, pos, len)
-}
-
-// What the operation at p was answered.
-fn send_asked(
-    size: u16,
-    p: SendAt,
-    a: Asked,
-    s: &mut [u8],
-    undo: &mut [u8],
-    buf: &mut [u8],
-) -> SendTurned
-    requires { ⌜ isSession (now s) ≡ true ⌝ }
-    requires { ⌜ Kept (now undo) ⌝ }
-    requires { ⌜ length (now buf) ≡ 2048 ⌝ }
-    ensures on { λ r. ⌜ ((frame : Bytes) (rec log₀ log : List ℕ) (pos len : ℕ) (b : Bytes) → to.Sized frame size → Asks (sendOp (pointOf p)) rec log₀ log pos len b (now (buf .entry)) a → (e : World) → to.Turns frame e (go e (drop pos rec) log₀ len (callTree (to.argsIn frame) (to.asksAt p) (turning.worldIn (now (s .entry)) b))) rec r log (now (s .exit)) (now (buf .exit))) ⌝ }
-    ensures held { λ _. ⌜ isSession (now (s .exit)) ≡ true ⌝ }
-    ensures kept { λ _. ⌜ turning.KeptAll (now (undo .entry)) (now (undo .exit)) (now (s .entry)) (now (s .exit)) (now (buf .entry)) (now (buf .exit)) ⌝ }
-    ensures grew { λ r. ⌜ ((room len : ℕ) → Grew room len a → r .on ≡ true → (len < r .end .len) × (r .end .len ≤ room)) ⌝ }
-{
-    if is_back(a) {
-        return over(back_end(a));
-    }
-    if a.fault {
-        return over(fault_end(a.value, a.len));
-    }
-    send_valued(size, p, a.value, a.pos, a.len, s, undo, buf)
-}
-
 // One operation, its answer, and what follows.
 fn send_turn(
     size: u16,
@@ -178,7 +122,14 @@ fn send_turn(
     ensures grew { λ r. ⌜ (r .on ≡ true → (len < r .end .len) × (r .end .len ≤ length (now (log .entry)))) ⌝ }
 {
     let a = send_ask(p, pos, len, undo, rec, log, buf);
-    send_asked(size, p, a, s, undo, buf)
+    if is_back(a) {
+        return over(back_end(a));
+    }
+    if a.fault {
+        return over(fault_end(a.value, a.len));
+    }
+    let n = send_answer(s, undo, buf, out_of(size), p, a.value);
+    send_now(n, a.pos, a.len)
 }
 
 // The frame is laid behind the header's place, and the bytes there are kept.

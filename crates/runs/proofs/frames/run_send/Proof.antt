@@ -10,7 +10,7 @@ use Rattle.runs.proofs.frames.run_send.Lts as lts
 use Rattle.run_end.proofs.done_end.Reads as done-end-reads
 use Rattle.runs.proofs.frames.is_straight.Reads as is-straight-reads
 use Rattle.runs.proofs.frames.send_kept.Reads as send-kept-reads
-use Rattle.send_call.proofs.straight.send_straight.Reads as send-straight-reads
+use Rattle.straight_send.proofs.send_straight.Reads as send-straight-reads
 
 is-straight-requires : tie.Need-is-straight-requires
 is-straight-requires c κs = search needs
