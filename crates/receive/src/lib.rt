@@ -25,7 +25,7 @@ ghost use mathlib.Core.Bool.{true};
 ghost use lib.ListN.{length};
 ghost use Rattle.wlan.specs.declared.BusAnswer.{BusAnswer};
 ghost use Rattle.wlan.specs.declared.Sdpcm.{Sdpcm};
-ghost use Rattle.rx.specs.Packets.{receivedOf};
+ghost use Rattle.rx_payload.specs.Packets.{receivedOf};
 ghost use Rattle.device.specs.Poll as to;
 ghost use Rattle.device.specs.Meaning.{arrivalOf};
 ghost use Rattle.send.specs.Send.{stored};

@@ -3,6 +3,8 @@ use arriving::handle_async_event;
 use ioctl::out_of;
 use places::write::put_reply;
 use places::write::put_sdpcm;
+use places_read::reply_at;
+use places_read::sdpcm_at;
 use poll_points::PollAt;
 use poll_points::PollKind;
 use poll_points::Polled;

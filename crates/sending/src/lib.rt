@@ -2,6 +2,7 @@
 // there at once, and kept before that.
 use arriving::handle_async_event;
 use places::write::put_sdpcm;
+use places_read::sdpcm_at;
 use poll_points::PollAt;
 use poll_points::PollKind;
 use poll_points::Polled;
