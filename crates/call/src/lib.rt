@@ -1,8 +1,8 @@
 // A call by value: state and scan list go into a session's bytes, the call runs on them, and they are read from the bytes again.
 use going::CallEnd;
 use jobs::ExchangeCall;
+use outcomes::outcome::outcome_of;
 use run_end::RunEnd;
-use run_end::outcome::outcome_of;
 use runs::exchanges::run_exchanges;
 use runs::frames::run_send;
 use runs::polling::run_poll;

@@ -6,7 +6,7 @@ pub mod take_entry;
 
 use entry::hand::put_result;
 use run_end::RunEnd;
-use run_end::outcome::refusal_number;
+use run_end::refusal_number;
 ghost use mathlib.Core.Path.{_≡_};
 ghost use mathlib.Core.List.{[], _∷_};
 ghost use Rattle.slices.specs.Over.{over};

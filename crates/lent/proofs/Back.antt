@@ -17,8 +17,8 @@ use Rattle.going.specs.declared.CallEnd.{CallEnd}
 use Rattle.going.specs.Onward.{endOf}
 use Rattle.scan_table.specs.Table.{emptyRecords, listOf, laid}
 use Rattle.scan_table.proofs.Laws.{laid-back, all-laid}
-use Rattle.lent.specs.declared.calls.LentEnd.{LentEnd}
-use Rattle.lent.specs.Lent.{calledOn, withList}
+use Rattle.lent_calls.specs.declared.LentEnd.{LentEnd}
+use Rattle.lent_calls.specs.Lent.{calledOn, withList}
 
 -- what `lent_end` says
 abbrev pub Ended : CallEnd → LentEnd → Type 0

@@ -1,9 +1,9 @@
 // The calls over a lent table.
-use crate::calls::LentEnd;
-use crate::calls::WifiCall;
-use crate::calls::lent_end;
-use crate::calls::list_of;
-use crate::calls::on_list;
+use lent_calls::LentEnd;
+use lent_calls::WifiCall;
+use lent_calls::lent_end;
+use lent_calls::list_of;
+use lent_calls::on_list;
 use scan_table::table::list_in;
 use scan_table::table::put_list;
 use wlan::ScanRecord;
@@ -14,7 +14,7 @@ ghost use Rattle.slices.specs.Pick.{pick};
 ghost use Rattle.definition.specs.Prog.{world};
 ghost use Rattle.going.specs.Onward.{endOf};
 ghost use Rattle.scan_table.specs.Table.{listOf};
-ghost use Rattle.lent.specs.Lent.{callOf, hasOutput, outputOf, calledOn, withList};
+ghost use Rattle.lent_calls.specs.Lent.{callOf, hasOutput, outputOf, calledOn, withList};
 
 // The table's first `count` records are the networks heard. A table that has not 32 records is refused with 13, and left as it is.
 pub fn wifi_call(

@@ -2,7 +2,7 @@
 use places_read::sdpcm_at;
 use places_read::wifi_at;
 use run_end::RunEnd;
-use run_end::outcome::refusal_number;
+use run_end::refusal_number;
 use state_bytes::numbers::state_number;
 ghost use mathlib.Core.Path.{_≡_};
 ghost use mathlib.Core.Bool.{true};

@@ -1,6 +1,4 @@
-// How a call ended, as numbers that go through no memory in pieces; its outcome from them.
-pub mod outcome;
-
+// How a call ended, as numbers that go through no memory in pieces.
 use connect_failure::FailureParts;
 use connect_failure::failure_parts;
 use wlan::ConnectFailure;
@@ -176,5 +174,31 @@ pub fn success_end(x: Success, len: usize) -> RunEnd
         Success::Taken(n) => value_end(EndKind::Taken, wide16(n), len),
         Success::Mac(n) => value_end(EndKind::Mac, n, len),
         Success::Word(n) => value_end(EndKind::Word, wide32(n), len),
+    }
+}
+
+// The refusal's number, 0 for success.
+pub fn refusal_number(k: EndKind) -> u32
+    ensures { λ n. ⌜ n ≡ to.numberBy k ⌝ }
+{
+    match k {
+        EndKind::Done => 0,
+        EndKind::Polled => 0,
+        EndKind::Taken => 0,
+        EndKind::Mac => 0,
+        EndKind::Word => 0,
+        EndKind::InvalidArg => 1,
+        EndKind::Timeout => 2,
+        EndKind::Io => 3,
+        EndKind::Busy => 4,
+        EndKind::WouldBlock => 5,
+        EndKind::NoMem => 6,
+        EndKind::Fault => 7,
+        EndKind::EventHeader => 10,
+        EndKind::PastBuffer => 11,
+        EndKind::Unrecorded => 8,
+        EndKind::WrongAnswer => 9,
+        EndKind::LogFull => 12,
+        EndKind::BufferLength => 13,
     }
 }

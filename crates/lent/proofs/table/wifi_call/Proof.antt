@@ -58,13 +58,13 @@ use Rattle.going.proofs.CallEnd.Laws as E′
 use Rattle.scan_table.proofs.Laws.{size-of}
 use Rattle.scan_table.proofs.Records.{word}
 use Rattle.scan_table.proofs.Shared.{LentShared, lends-shared, shared-back}
-use Rattle.lent.specs.declared.calls.WifiCall.{WifiCall}
-use Rattle.lent.specs.declared.calls.LentEnd.{LentEnd}
-use Rattle.lent.specs.Lent.{callOf, hasOutput, outputOf, calledOn, withList}
-use Rattle.lent.proofs.calls.WifiCall as K
-use Rattle.lent.proofs.calls.WifiCall.Laws as K′
-use Rattle.lent.proofs.calls.LentEnd as Z
-use Rattle.lent.proofs.calls.LentEnd.Laws as Z′
+use Rattle.lent_calls.specs.declared.WifiCall.{WifiCall}
+use Rattle.lent_calls.specs.declared.LentEnd.{LentEnd}
+use Rattle.lent_calls.specs.Lent.{callOf, hasOutput, outputOf, calledOn, withList}
+use Rattle.lent_calls.proofs.WifiCall as K
+use Rattle.lent_calls.proofs.WifiCall.Laws as K′
+use Rattle.lent_calls.proofs.LentEnd as Z
+use Rattle.lent_calls.proofs.LentEnd.Laws as Z′
 use Rattle.lent.proofs.Back.{Ended, back}
 use Rattle.scan_table.proofs.table.list_in as list-in
 use Rattle.scan_table.proofs.table.list_in.Symbol as list-in-def
@@ -74,18 +74,18 @@ use Rattle.scan_table.proofs.table.put_list as put-list
 use Rattle.scan_table.proofs.table.put_list.Symbol as put-list-def
 use Rattle.scan_table.proofs.table.put_list.Symbol.{name as #table·put-list}
 use Rattle.scan_table.proofs.table.put_list.Met as put-list-thm
-use Rattle.lent.proofs.calls.on_list as on-list
-use Rattle.lent.proofs.calls.on_list.Symbol as on-list-def
-use Rattle.lent.proofs.calls.on_list.Symbol.{name as #call·on-list}
-use Rattle.lent.proofs.calls.on_list.Met as on-list-thm
-use Rattle.lent.proofs.calls.list_of as list-of
-use Rattle.lent.proofs.calls.list_of.Symbol as list-of-def
-use Rattle.lent.proofs.calls.list_of.Symbol.{name as #call·list-of}
-use Rattle.lent.proofs.calls.list_of.Met as list-of-thm
-use Rattle.lent.proofs.calls.lent_end as lent-end
-use Rattle.lent.proofs.calls.lent_end.Symbol as lent-end-def
-use Rattle.lent.proofs.calls.lent_end.Symbol.{name as #call·lent-end}
-use Rattle.lent.proofs.calls.lent_end.Met as lent-end-thm
+use Rattle.lent_calls.proofs.on_list as on-list
+use Rattle.lent_calls.proofs.on_list.Symbol as on-list-def
+use Rattle.lent_calls.proofs.on_list.Symbol.{name as #call·on-list}
+use Rattle.lent_calls.proofs.on_list.Met as on-list-thm
+use Rattle.lent_calls.proofs.list_of as list-of
+use Rattle.lent_calls.proofs.list_of.Symbol as list-of-def
+use Rattle.lent_calls.proofs.list_of.Symbol.{name as #call·list-of}
+use Rattle.lent_calls.proofs.list_of.Met as list-of-thm
+use Rattle.lent_calls.proofs.lent_end as lent-end
+use Rattle.lent_calls.proofs.lent_end.Symbol as lent-end-def
+use Rattle.lent_calls.proofs.lent_end.Symbol.{name as #call·lent-end}
+use Rattle.lent_calls.proofs.lent_end.Met as lent-end-thm
 use Rattle.lent.proofs.table.wifi_call.Key.{name as #table·wifi-call}
 use Rattle.lent.proofs.table.wifi_call as f
 use Rattle.lent.proofs.table.wifi_call.Statement as stated
@@ -432,7 +432,7 @@ wifi-call-spec 𝓤 H 𝓜 𝓖 𝓡 =
     (tables 𝓤 H 𝓜 𝓡 code.env .C) (tables 𝓤 H 𝓜 𝓡 code.env .Λ) #table·wifi-call code.function (code.unfolded 𝓤 H 𝓜 𝓡)
     (wifi-call-meets 𝓤 H (𝓖 .A) (givenOf 𝓤 H 𝓜 𝓖) (𝓜 .mem) (𝓡 .run) (tablesOf 𝓤 H 𝓜 (tables 𝓤 H 𝓜 𝓡 code.env))
     (cited 𝓤 H (ListIn 𝓤 H (𝓖 .A) (𝓜 .mem) (𝓡 .run)) 𝓜 𝓡 code.env #table·list-in list-in-def.routine code.calls-scan-table·table·list-in (list-in-thm.met 𝓤 H 𝓜 𝓖 𝓡))
-    (cited 𝓤 H (OnList 𝓤 H (𝓖 .A) (𝓜 .mem) (𝓡 .run)) 𝓜 𝓡 code.env #call·on-list on-list-def.routine code.calls-lent·calls·on-list (on-list-thm.met 𝓤 H 𝓜 𝓖 𝓡))
-    (cited 𝓤 H (ListOf 𝓤 H (𝓖 .A) (𝓜 .mem) (𝓡 .run)) 𝓜 𝓡 code.env #call·list-of list-of-def.routine code.calls-lent·calls·list-of (list-of-thm.met 𝓤 H 𝓜 𝓖 𝓡))
+    (cited 𝓤 H (OnList 𝓤 H (𝓖 .A) (𝓜 .mem) (𝓡 .run)) 𝓜 𝓡 code.env #call·on-list on-list-def.routine code.calls-lent-calls·on-list (on-list-thm.met 𝓤 H 𝓜 𝓖 𝓡))
+    (cited 𝓤 H (ListOf 𝓤 H (𝓖 .A) (𝓜 .mem) (𝓡 .run)) 𝓜 𝓡 code.env #call·list-of list-of-def.routine code.calls-lent-calls·list-of (list-of-thm.met 𝓤 H 𝓜 𝓖 𝓡))
     (cited 𝓤 H (PutList 𝓤 H (𝓖 .A) (𝓜 .mem) (𝓡 .run)) 𝓜 𝓡 code.env #table·put-list put-list-def.routine code.calls-scan-table·table·put-list (put-list-thm.met 𝓤 H 𝓜 𝓖 𝓡))
-    (cited 𝓤 H (EndOf 𝓤 H (𝓖 .A) (𝓜 .mem) (𝓡 .run)) 𝓜 𝓡 code.env #call·lent-end lent-end-def.routine code.calls-lent·calls·lent-end (lent-end-thm.met 𝓤 H 𝓜 𝓖 𝓡)))
+    (cited 𝓤 H (EndOf 𝓤 H (𝓖 .A) (𝓜 .mem) (𝓡 .run)) 𝓜 𝓡 code.env #call·lent-end lent-end-def.routine code.calls-lent-calls·lent-end (lent-end-thm.met 𝓤 H 𝓜 𝓖 𝓡)))

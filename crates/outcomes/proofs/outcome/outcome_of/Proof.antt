@@ -1,11 +1,11 @@
 use mathlib.Core.Path.{sym, ap, _∙_}
 use Rattle.wlan.specs.Outcome.{valueOf}
 use Rattle.connect_failure.proofs.Laws.{failure-back}
 use Rattle.run_end.specs.RunEnd as to
-use Rattle.run_end.proofs.Laws.{outcome-back, small-back}
+use Rattle.outcomes.proofs.Laws.{outcome-back, small-back}
 use borrow.Author.Needs.{needs}
-use Rattle.run_end.proofs.outcome.outcome_of.Statement.{statement}
-use Rattle.run_end.proofs.outcome.outcome_of.Tie as tie
+use Rattle.outcomes.proofs.outcome.outcome_of.Statement.{statement}
+use Rattle.outcomes.proofs.outcome.outcome_of.Tie as tie
 
 failure-of-requires : tie.Need-failure-of-requires
 failure-of-requires c κs = search needs

@@ -3,8 +3,8 @@ use Rattle.wlan.specs.declared.Outcome.{Outcome}
 use Rattle.wlan.specs.declared.Success.{Success}
 use Rattle.wlan.specs.declared.DriverError.{DriverError}
 use borrow.Author.Needs.{needs}
-use Rattle.run_end.proofs.outcome.outcome_by.Statement.{statement}
-use Rattle.run_end.proofs.outcome.outcome_by.Tie as tie
+use Rattle.outcomes.proofs.outcome.outcome_by.Statement.{statement}
+use Rattle.outcomes.proofs.outcome.outcome_by.Tie as tie
 
 enum-told : tie.Need-enum-told
 enum-told c = search needs

@@ -14,8 +14,8 @@ use Rattle.definition.specs.Run.{End, called, shown, rolledBack}
 use Rattle.jobs.specs.Jobs as jobs
 use Rattle.going.specs.declared.CallEnd.{CallEnd}
 use Rattle.scan_table.specs.Table.{listOf}
-use Rattle.lent.specs.declared.calls.WifiCall.{WifiCall}
-use Rattle.lent.specs.declared.calls.LentEnd.{LentEnd}
+use Rattle.lent_calls.specs.declared.WifiCall.{WifiCall}
+use Rattle.lent_calls.specs.declared.LentEnd.{LentEnd}
 
 -- the definition's call; a and b: the bytes that it takes, n: the output's length
 unfoldable pub callOf : WifiCall → Bytes → Bytes → ℕ → Call

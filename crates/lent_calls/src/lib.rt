@@ -13,7 +13,7 @@ ghost use Rattle.slices.specs.Pick.{pick};
 ghost use Rattle.definition.specs.Prog.{world};
 ghost use Rattle.definition.specs.Run.{called};
 ghost use Rattle.going.specs.Onward.{endOf};
-ghost use Rattle.lent.specs.Lent.{callOf, hasOutput, outputOf, calledOn};
+ghost use Rattle.lent_calls.specs.Lent.{callOf, hasOutput, outputOf, calledOn};
 
 // A call with its numbers. The bytes that it takes are lent beside it: SSID and passphrase, a frame, a variable's name and data.
 pub enum WifiCall {

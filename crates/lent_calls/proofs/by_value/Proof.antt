@@ -1,11 +1,11 @@
 use mathlib.Core.Path.{refl}
 use mathlib.Core.List.{[]}
 use denote.Ref.{now}
-use Rattle.lent.specs.Lent.{callOf, hasOutput}
-use Rattle.lent.proofs.Plain.{plainly, takes}
+use Rattle.lent_calls.specs.Lent.{callOf, hasOutput}
+use Rattle.lent_calls.proofs.Plain.{plainly, takes}
 use borrow.Author.Needs.{needs}
-use Rattle.lent.proofs.calls.by_value.Statement.{statement}
-use Rattle.lent.proofs.calls.by_value.Tie as tie
+use Rattle.lent_calls.proofs.by_value.Statement.{statement}
+use Rattle.lent_calls.proofs.by_value.Tie as tie
 
 enum-known-c : tie.Need-enum-known-c
 enum-known-c c = search needs

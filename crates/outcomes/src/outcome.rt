@@ -1,7 +1,7 @@
 // The outcome that the numbers tell, for who takes it by value.
-use crate::EndKind;
-use crate::RunEnd;
 use connect_failure::failure_of;
+use run_end::EndKind;
+use run_end::RunEnd;
 use wlan::ConnectFailure;
 use wlan::DriverError;
 use wlan::Outcome;
@@ -11,7 +11,8 @@ use wlan::WlanPollResult;
 ghost use mathlib.Core.Path.{_≡_};
 ghost use Prim.Native.Nat.{_<_};
 ghost use Rattle.wlan.specs.declared.Outcome as told;
-ghost use Rattle.run_end.specs.RunEnd as to;
+ghost use Rattle.run_end.specs.RunEnd.{Tells};
+ghost use Rattle.outcomes.specs.Outcomes as to;
 
 fn narrow8(x: u64) -> u8
     ensures { λ r. ⌜ (x < 256 → r ≡ x) ⌝ }
@@ -83,35 +84,9 @@ fn outcome_by(k: EndKind, v: u64, f: ConnectFailure) -> Outcome
 }
 
 pub fn outcome_of(r: RunEnd) -> Outcome
-    ensures { λ x. ⌜ ((o : told.Outcome) → to.Tells r o → x ≡ o) ⌝ }
+    ensures { λ x. ⌜ ((o : told.Outcome) → Tells r o → x ≡ o) ⌝ }
 {
     let k = r.kind;
     let f = r.failure;
     outcome_by(k, r.value, failure_of(f))
-}
-
-// The refusal's number, 0 for success.
-pub fn refusal_number(k: EndKind) -> u32
-    ensures { λ n. ⌜ n ≡ to.numberBy k ⌝ }
-{
-    match k {
-        EndKind::Done => 0,
-        EndKind::Polled => 0,
-        EndKind::Taken => 0,
-        EndKind::Mac => 0,
-        EndKind::Word => 0,
-        EndKind::InvalidArg => 1,
-        EndKind::Timeout => 2,
-        EndKind::Io => 3,
-        EndKind::Busy => 4,
-        EndKind::WouldBlock => 5,
-        EndKind::NoMem => 6,
-        EndKind::Fault => 7,
-        EndKind::EventHeader => 10,
-        EndKind::PastBuffer => 11,
-        EndKind::Unrecorded => 8,
-        EndKind::WrongAnswer => 9,
-        EndKind::LogFull => 12,
-        EndKind::BufferLength => 13,
-    }
 }

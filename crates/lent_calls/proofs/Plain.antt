@@ -15,8 +15,8 @@ use Rattle.definition.specs.Calls.{Call}
 use Rattle.definition.specs.Run.{called, shown}
 use Rattle.going.specs.declared.CallEnd.{CallEnd}
 use Rattle.going.specs.Onward.{endOf}
-use Rattle.lent.specs.declared.calls.WifiCall.{WifiCall}
-use Rattle.lent.specs.Lent.{callOf, hasOutput, outputOf, calledOn}
+use Rattle.lent_calls.specs.declared.WifiCall.{WifiCall}
+use Rattle.lent_calls.specs.Lent.{callOf, hasOutput, outputOf, calledOn}
 
 module _ (c : WifiCall) (r : CallEnd) (w : World) (a b rec log log₀ buf out after : List ℕ) where
   -- what is to be shown of a call

@@ -1,7 +1,7 @@
 use mathlib.Core.Path.{refl}
 use borrow.Author.Needs.{needs}
-use Rattle.run_end.proofs.outcome.refusal_number.Statement.{statement}
-use Rattle.run_end.proofs.outcome.refusal_number.Tie as tie
+use Rattle.run_end.proofs.refusal_number.Statement.{statement}
+use Rattle.run_end.proofs.refusal_number.Tie as tie
 
 enum-told : tie.Need-enum-told
 enum-told c = search needs

@@ -1,11 +1,11 @@
-// The number of each refusal, and the value that goes with it or with a success: `specs/Outcome.antt`.
-use crate::DriverError;
-use crate::Outcome;
-use crate::Refusal;
-use crate::Success;
-use crate::WlanPollResult;
+// The number of each refusal, and the value that goes with it or with a success: `wlan/specs/Outcome.antt`.
+use wlan::DriverError;
+use wlan::Outcome;
+use wlan::Refusal;
+use wlan::Success;
+use wlan::WlanPollResult;
 ghost use mathlib.Core.Path.{_≡_};
 ghost use Rattle.wlan.specs.Outcome as to;
 
 pub fn error_number(e: DriverError) -> u32
     ensures { λ n. ⌜ n ≡ to.errorNumber e ⌝ }

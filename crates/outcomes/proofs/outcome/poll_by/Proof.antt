@@ -1,8 +1,8 @@
 use mathlib.Core.Path.{refl, _∙_}
 use borrow.Author.Tests.{eq-eqb, ne-eqb}
 use borrow.Author.Needs.{needs}
-use Rattle.run_end.proofs.outcome.poll_by.Statement.{statement}
-use Rattle.run_end.proofs.outcome.poll_by.Tie as tie
+use Rattle.outcomes.proofs.outcome.poll_by.Statement.{statement}
+use Rattle.outcomes.proofs.outcome.poll_by.Tie as tie
 
 enum-told : tie.Need-enum-told
 enum-told c = search needs

@@ -1,11 +1,11 @@
 use mathlib.Core.Path.{_∙_}
 use denote.Ref.{now}
 use Rattle.definition.specs.Prog.{world}
-use Rattle.lent.specs.Lent.{hasOutput}
-use Rattle.lent.proofs.Plain.{on-32, off-32, unwritten}
+use Rattle.lent_calls.specs.Lent.{hasOutput}
+use Rattle.lent_calls.proofs.Plain.{on-32, off-32, unwritten}
 use borrow.Author.Needs.{needs}
-use Rattle.lent.proofs.calls.on_list.Statement.{statement}
-use Rattle.lent.proofs.calls.on_list.Tie as tie
+use Rattle.lent_calls.proofs.on_list.Statement.{statement}
+use Rattle.lent_calls.proofs.on_list.Tie as tie
 
 by-value-requires : tie.Need-by-value-requires
 by-value-requires c κs = search needs
