@@ -5,7 +5,7 @@ use std::fmt::Write;
 use crate::{
     call::take_length,
     oracle::{CallResult, Oracle, PANIC},
-    state::Failure,
+    state::{Failure, Record, State},
 };
 
 pub const LOG: usize = 8192;
@@ -169,44 +169,69 @@ pub fn full_lines(result: &CallResult, oracle: &Oracle, out: &[u8], print: Print
     text
 }
 
-fn sum(start: u64, numbers: impl IntoIterator<Item = u64>) -> u64 {
-    numbers.into_iter().fold(start, |h, n| (h * 4099 + n + 1) % 281_474_976_710_597)
+/// A sum over bytes in which each place counts.
+fn sum(bytes: &[u8]) -> u64 {
+    bytes.iter().fold(0, |h, &b| (h * 4099 + u64::from(b) + 1) % 281_474_976_710_597)
 }
 
-fn sum_bytes(start: u64, bytes: &[u8]) -> u64 {
-    sum(start, bytes.iter().map(|&b| b.into()))
+/// A failure's tag, from 1 in the order of the variants that the driver builds, its status and its reason; zeros
+/// for none.
+fn failure_parts(f: Option<Failure>) -> (u8, u32, u32) {
+    let tag = |kind| match kind {
+        0..=5 => kind + 1,
+        7 => 7,
+        _ => panic!("a failure that the driver never builds"),
+    };
+    f.map_or((0, 0, 0), |f| (tag(f.kind), f.status, f.reason))
 }
 
-fn failure_numbers(f: Option<Failure>) -> [u64; 3] {
-    f.map_or([0; 3], |f| [u64::from(f.kind) + 1, f.status.into(), f.reason.into()])
-}
-
-/// The further line of `--numbers`: mark, scan marks, auth; reply; frame; failure; tick; the
-/// failure reported; count and sum of the scan list; sums of work buffer and output. What is
-/// not there is zeros; what is, 1 (a failure: its place from 1) and its numbers.
-pub fn number_line(result: &CallResult, oracle: &Oracle, out: &[u8]) -> String {
-    let s = oracle.state();
-    let mut numbers: Vec<u64> = vec![
+/// The state's 41 bytes, as a session has them (`stateBytes` in `crates/state_bytes/specs/StateBytes.antt`).
+fn state_bytes(s: &State) -> Vec<u8> {
+    let mut b = vec![
+        s.packet_tx_seq,
+        s.last_bus_data_credit,
+        s.wlan_flow_control,
+        s.requested_ioctl_id,
         s.had_successful_packet.into(),
         s.scan_done.into(),
         s.scan_in_progress.into(),
-        s.current_auth.into(),
     ];
-    numbers.extend(
-        s.pending_ioctl_resp
-            .map_or([0; 4], |r| [1, r.offset as u64, r.len as u64, u64::from(r.status as u32)]),
-    );
-    numbers.extend(s.pending_rx.map_or([0; 3], |b| [1, b.offset as u64, b.len as u64]));
-    numbers.extend(failure_numbers(s.connect_failure));
-    numbers.extend(s.disconnect_started_tick.map_or([0; 2], |t| [1, t]));
-    numbers.extend(failure_numbers(result.failure));
+    let half = |n: usize| u16::try_from(n).expect("an offset or a length of 16 bits").to_le_bytes();
+    let r = s.pending_ioctl_resp;
+    b.push(r.is_some().into());
+    let (offset, len, status) = r.map_or((0, 0, 0), |r| (r.offset, r.len, r.status));
+    b.extend([half(offset), half(len)].concat());
+    b.extend(status.to_le_bytes());
+    let frame = s.pending_rx;
+    b.push(frame.is_some().into());
+    let (offset, len) = frame.map_or((0, 0), |f| (f.offset, f.len));
+    b.extend([half(offset), half(len)].concat());
+    b.extend([s.state, s.current_auth]);
+    let (tag, status, reason) = failure_parts(s.connect_failure);
+    b.push(tag);
+    b.extend([status.to_le_bytes(), reason.to_le_bytes()].concat());
+    b.push(s.disconnect_started_tick.is_some().into());
+    b.extend(s.disconnect_started_tick.unwrap_or(0).to_le_bytes());
+    b
+}
+
+/// A record's 42 bytes (`recordBytes` in `crates/session_bytes/specs/ListBytes.antt`).
+fn record_bytes(r: &Record) -> Vec<u8> {
+    let len = u8::try_from(r.ssid_len).expect("at most 32");
+    let channel = u8::try_from(r.channel).expect("a channel's low byte");
+    [&r.ssid[..], &r.bssid, &[len, channel], &r.rssi.to_le_bytes()].concat()
+}
+
+/// The further line of `--numbers`: the state's bytes; the failure reported; count of the scan
+/// list and sum of its records' bytes; sums of work buffer and output.
+pub fn number_line(result: &CallResult, oracle: &Oracle, out: &[u8]) -> String {
+    let mut numbers: Vec<u64> = state_bytes(&oracle.state()).into_iter().map(u64::from).collect();
+    let (tag, status, reason) = failure_parts(result.failure);
+    numbers.extend([u64::from(tag), status.into(), reason.into()]);
     let records = oracle.records();
     numbers.push(records.len() as u64);
-    numbers.push(records.iter().fold(0, |h, r| {
-        let rest = [r.ssid_len as u64, r.channel.into(), u64::from(r.rssi as u16)];
-        sum(sum_bytes(sum_bytes(h, &r.ssid), &r.bssid), rest)
-    }));
-    numbers.extend([sum_bytes(0, oracle.buffer()), sum_bytes(0, out)]);
+    let bytes: Vec<u8> = records.iter().flat_map(record_bytes).collect();
+    numbers.extend([sum(&bytes), sum(oracle.buffer()), sum(out)]);
     let mut text = String::new();
     for n in numbers {
         write!(text, "{n} ").unwrap();

@@ -1,5 +1,4 @@
 // The player's input and lines: calls read from standard input, and what comes of them as text.
 pub mod input;
-pub mod print;
 pub mod room;
 pub mod text;

@@ -38,8 +38,8 @@ fn play(
     let r = session::calls::play_call(call, args, s, undo, rec, log, buf, out);
     let k = lines::text::put_lines(text, call, r, s, log);
     let going = io::write_all(1, &text[..k]);
-    lines::print::end(r, s);
-    lines::print::bytes(buf, out);
+    shown::print::end(r, s);
+    shown::print::bytes(buf, out);
     going
 }
 

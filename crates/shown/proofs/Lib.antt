@@ -1,4 +1,1 @@
-pub mod Replies
-pub mod Reports
-pub mod Signs
 pub mod Sums

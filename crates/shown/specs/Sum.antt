@@ -1,11 +1,8 @@
--- A sum over numbers in which each place counts. A signed number counts by its bits.
+-- A sum over bytes in which each place counts.
 use Prim.Native.Nat.{ℕ, _+_, _*_, _%_, min}
 use mathlib.Core.List.{List, [], _∷_}
-use lib.ListN.{take}
-use mir.Syntax.{w16}
-use mir.Val.{ofZ}
-use Rattle.wlan.specs.declared.ScanList.{ScanList}
-use Rattle.wlan.specs.declared.ScanRecord.{ScanRecord}
+use lib.ListN.{take, drop}
+use Rattle.session_bytes.specs.Session.{sessionIn}
 
 -- sums are below this
 abbrev pub limit : ℕ
@@ -18,13 +15,6 @@ unfoldable pub sumFrom : ℕ → List ℕ → ℕ
 sumFrom h [] = h
 sumFrom h (b ∷ s) = sumFrom (sumNext h b) s
 
-unfoldable pub sumRecord : ℕ → ScanRecord → ℕ
-sumRecord h r = sumFrom (sumFrom (sumFrom h (r .ssid)) (r .bssid)) (r .«ssid_len» ∷ r .channel ∷ ofZ w16 (r .rssi) ∷ [])
-
-unfoldable pub sumRecords : ℕ → List ScanRecord → ℕ
-sumRecords h [] = h
-sumRecords h (r ∷ rs) = sumRecords (sumRecord h r) rs
-
--- the networks that were heard
-abbrev pub sumList : ScanList → ℕ
-sumList l = sumRecords 0 (take (min (l .count) 32) (l .records))
+-- the bytes of the networks that were heard, 42 each, in a session's bytes
+abbrev pub heardBytes : List ℕ → List ℕ
+heardBytes b = take (42 * min (sessionIn b .list .count) 32) (drop 49 b)
