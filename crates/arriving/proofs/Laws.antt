@@ -38,13 +38,6 @@ and-second false s h = absurd (true≢false (sym h))
 pub kept-same : {u s : List ℕ} → Kept u → to.KeptFor u u s s
 kept-same k = record { kept = k; count = refl; buf = λ b. refl; session = refl }
 
--- the list first, then the state
-
-pub after-both : (b : List ℕ) {c d : List ℕ} (e : AsyncEvent) → Holds c (withList b (listAfter e (sessionIn b .list)))
-    → Holds d (withState c (stateAfter e (sessionIn c .st))) → Holds d (to.afterSession b e)
-unfolding to.afterSession
-after-both b e h k = rw (h .back) at k
-
 -- a state laid after the list leaves what is put back
 pub kept-state : {u v b c d : List ℕ} (s : State) → to.KeptFor u v b c → isSession c ≡ true → Holds d (withState c s) → to.KeptFor u v b d
 kept-state s k hc h =
@@ -104,6 +97,16 @@ module _ (b : List ℕ) (offset len : ℕ) (h : length b ≡ 2048) (k : 48 ≤ l
   pub event-there : (n : Numbers) (w : ℕ) → w ≡ 16 → n ≡ numbersOf (take w (drop (offset + 32) b)) → eventOf (drop offset b) len ≡ eventWith n (eventOf (drop offset b) len .«scan_result»)
   event-there n w z e =
       numbers-there ∙ ap (λ (x : Numbers). eventWith x (eventOf (drop offset b) len .«scan_result»)) (sym (e ∙ ap (λ (k : ℕ). numbersOf (take k (drop (offset + 32) b))) z))
+
+-- an event whose bytes are e
+module _ (p : List ℕ) (len : ℕ) (e : List ℕ) (q : e ≡ eventBytes p len) where
+  pub numbers-from : (n : Numbers) → n ≡ numbersOf e → eventOf p len ≡ eventWith n (eventOf p len .«scan_result»)
+  unfolding eventOf numbersOf
+  numbers-from n en = rw (en, q)
+
+  pub result-from : scanResult e ≡ eventOf p len .«scan_result»
+  unfolding eventOf
+  result-from = ap scanResult q
 
 -- all 140
 pub result-there : (b : List ℕ) (offset len : ℕ) → length b ≡ 2048 → 172 ≤ len → offset + 172 ≤ 2048 → eventOf (drop offset b) len .«scan_result» ≡ scanResult (take 140 (drop (offset + 32) b))

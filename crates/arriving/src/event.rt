@@ -4,7 +4,6 @@ use event_state::event_from;
 use event_state::handle_numbers;
 use event_state::numbers_in;
 use hearing::count_in;
-use hearing::hear_network;
 use hearing::result::add_result;
 use hearing::result::knows_result;
 use undo::keep_records;
@@ -46,10 +45,8 @@ fn hear_cut(s: &mut [u8], undo: &mut [u8], buf: &[u8], offset: u16, len: u16)
     ensures list { λ _. ⌜ Holds (now (s .exit)) (withList (now (s .entry)) (heard (sessionIn (now (s .entry)) .list) (eventOf (drop offset (now (buf .entry))) len .«scan_result»))) ⌝ }
     ensures kept { λ _. ⌜ to.KeptFor (now (undo .entry)) (now (undo .exit)) (now (s .entry)) (now (s .exit)) ⌝ }
 {
-    keep_records(undo, s);
     let e = event_from(buf, offset as usize, len);
-    let r = e.scan_result;
-    hear_network(s, r);
+    hear_result(s, undo, &e);
 }
 
 // An event that brings a network.
@@ -97,6 +94,22 @@ pub fn handle_there(s: &mut [u8], undo: &mut [u8], buf: &[u8], offset: u16, len:
     let n = numbers_in(&buf[from..end]);
     if brings_network(n) {
         hear_brought(s, undo, buf, offset, len);
+        return;
+    }
+    handle_numbers(s, n);
+}
+
+// An event of which the packet does not have the first 16 bytes.
+pub fn handle_far(s: &mut [u8], undo: &mut [u8], buf: &[u8], offset: u16, len: u16)
+    requires { ⌜ isSession (now s) ≡ true ⌝ }
+    requires { ⌜ Kept (now undo) ⌝ }
+    ensures held { λ _. ⌜ Holds (now (s .exit)) (to.afterSession (now (s .entry)) (eventOf (drop offset (now (buf .entry))) len)) ⌝ }
+    ensures kept { λ _. ⌜ to.KeptFor (now (undo .entry)) (now (undo .exit)) (now (s .entry)) (now (s .exit)) ⌝ }
+{
+    let e = event_from(buf, offset as usize, len);
+    let n = numbers_in(&e);
+    if brings_network(n) {
+        hear_result(s, undo, &e);
         return;
     }
     handle_numbers(s, n);

@@ -1,12 +1,8 @@
 // An event that came is heard by the scan list, in a session's bytes; the records are kept before that.
 pub mod event;
 
+use crate::event::handle_far;
 use crate::event::handle_there;
-use event_state::Numbers;
-use event_state::event_from;
-use event_state::handle_numbers;
-use hearing::hear;
-use undo::keep_records;
 ghost use mathlib.Core.Path.{_≡_};
 ghost use mathlib.Core.Bool.{true};
 ghost use lib.ListN.{length, drop};
@@ -32,25 +28,4 @@ pub fn handle_async_event(s: &mut [u8], undo: &mut [u8], buf: &[u8], offset: u16
         return;
     }
     handle_there(s, undo, buf, offset, len);
-}
-
-// The same of an event of which the packet does not have the first 16 bytes.
-fn handle_far(s: &mut [u8], undo: &mut [u8], buf: &[u8], offset: u16, len: u16)
-    requires { ⌜ isSession (now s) ≡ true ⌝ }
-    requires { ⌜ Kept (now undo) ⌝ }
-    ensures held { λ _. ⌜ Holds (now (s .exit)) (to.afterSession (now (s .entry)) (eventOf (drop offset (now (buf .entry))) len)) ⌝ }
-    ensures kept { λ _. ⌜ to.KeptFor (now (undo .entry)) (now (undo .exit)) (now (s .entry)) (now (s .exit)) ⌝ }
-{
-    keep_records(undo, s);
-    let e = event_from(buf, offset as usize, len);
-    hear(s, e);
-    handle_numbers(
-        s,
-        Numbers {
-            flags: e.flags,
-            event_type: e.event_type,
-            status: e.status,
-            reason: e.reason,
-        },
-    );
 }

@@ -1,5 +1,5 @@
 // What an event does to the state.
-use events::event::read_event;
+use events::event::event_bytes;
 use handling::link::link_after;
 use places::write::put_link;
 use places::write::put_marks;
@@ -12,7 +12,7 @@ ghost use mathlib.Core.Bool.{true};
 ghost use Prim.Native.Nat.{_+_, _*_, _≤_};
 ghost use lib.ListN.{length, drop};
 ghost use Rattle.wlan.specs.declared.ScanRecord as scanRecord;
-ghost use Rattle.definition.specs.Event.{linkAfter, eventOf};
+ghost use Rattle.definition.specs.Event.{eventBytes, linkAfter};
 ghost use Rattle.handling.specs.Handle.{stateAfter};
 ghost use Rattle.session_bytes.specs.Session.{isSession, sessionIn, withState};
 ghost use Rattle.places.specs.Places.{Holds, linkPut};
@@ -26,13 +26,14 @@ pub struct Numbers {
     pub reason: u32,
 }
 
-pub fn event_from(buf: &[u8], offset: usize, len: u16) -> AsyncEvent
-    ensures { λ r. ⌜ r ≡ eventOf (drop offset (now (buf .entry))) len ⌝ }
+// The bytes of an event that begins at offset.
+pub fn event_from(buf: &[u8], offset: usize, len: u16) -> [u8; 140]
+    ensures { λ r. ⌜ r ≡ eventBytes (drop offset (now (buf .entry))) len ⌝ }
 {
     if buf.len() < offset {
-        return read_event(&buf[buf.len()..], len);
+        return event_bytes(&buf[buf.len()..], len);
     }
-    read_event(&buf[offset..], len)
+    event_bytes(&buf[offset..], len)
 }
 
 fn be16(a: u8, b: u8) -> u16

@@ -142,7 +142,7 @@ module _ (b : List ℕ) (h : isSession b ≡ true) where
   state-kept = sym (ses.state-front (sessionIn b .st) (listBytes list)) ∙ ap stateIn (ses.session-form b h)
 
   -- nothing is laid
-  pub same-list : Holds b (withList b list)
+  same-list : Holds b (withList b list)
   same-list = record { known = h; back = refl }
 
   holds : {d : List ℕ} (l : ScanList) → length (l .records) ≡ 32 → EachWhole (l .records) → l .count < 18446744073709551616
