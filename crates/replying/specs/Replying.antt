@@ -26,8 +26,8 @@ use Rattle.places.specs.Places.{Holds}
 use Rattle.poll_points.specs.declared.PollAt.{PollAt}
 use Rattle.poll_points.specs.PollPoints as poll
 use Rattle.undo.specs.Undo.{Kept, backSession, backBuf}
-use Rattle.sending.specs.declared.SendKind.{SendKind}
-use Rattle.sending.specs.Sending as send
+use Rattle.send_points.specs.declared.SendKind.{SendKind}
+use Rattle.send_points.specs.SendPoints as send
 use Rattle.replying.specs.declared.IoctlAt.{IoctlAt}
 use Rattle.replying.specs.declared.IoctlKind.{IoctlKind}
 use Rattle.replying.specs.declared.IoctlNow.{IoctlNow}

@@ -14,12 +14,12 @@ use receive::poll_device;
 use sdpcm::header::next_id;
 use sdpcm::status::f2_ready;
 use send::elapsed_us;
-use sending::SendAt;
-use sending::SendKind;
-use sending::SendNow;
-use sending::SentKind;
+use send_points::SendAt;
+use send_points::SendKind;
+use send_points::SendNow;
+use send_points::SentKind;
+use send_points::is_free;
 use sending::emit_header;
-use sending::is_free;
 use sending::send_answer;
 use wlan::DriverError;
 use wlan::PendingIoctlResp;
@@ -44,7 +44,7 @@ ghost use Rattle.ioctl.specs.Ioctl as to;
 ghost use Rattle.session_bytes.specs.Session.{isSession, sessionIn};
 ghost use Rattle.poll_points.specs.PollPoints as poll;
 ghost use Rattle.undo.specs.Undo.{Kept};
-ghost use Rattle.sending.specs.Sending as send;
+ghost use Rattle.send_points.specs.SendPoints as send;
 ghost use Rattle.replying.specs.Replying as at;
 
 // A send's point or the exchange's own: the stall before the write, the status and the write, then the wait for the reply.

@@ -6,7 +6,7 @@ use Rattle.slices.specs.Le.{round4}
 use Rattle.send.specs.Send.{emitStep, putOf}
 use Rattle.ioctl.specs.Ioctl.{sendingStep, sendingNext}
 use Rattle.session_bytes.specs.Session.{sessionIn}
-use Rattle.sending.specs.Sending as send
+use Rattle.send_points.specs.SendPoints as send
 use Rattle.replying.specs.Replying.{headerIn, pointBy}
 use Rattle.replying.proofs.Laws.{emitted}
 use borrow.Author.Needs.{needs}

@@ -2,7 +2,7 @@ use mathlib.Core.Bool.{false}
 use Rattle.send.specs.declared.HeaderPut.{HeaderPut}
 use Rattle.send.specs.Send as snd
 use Rattle.ioctl.specs.Ioctl.{ioctlOp, ioctlAnswer, atFirst, atTest, sendingStep, sendingNext}
-use Rattle.sending.specs.Sending as send
+use Rattle.send_points.specs.SendPoints as send
 use Rattle.replying.specs.Replying.{pointBy}
 use Rattle.replying.proofs.Laws.{still, unlaid}
 use borrow.Author.Needs.{needs}

@@ -5,7 +5,7 @@ use borrow.Author.Tests.{eq-eqb, ne-eqb, not-true, not-false}
 use Rattle.send.specs.declared.HeaderPut.{HeaderPut}
 use Rattle.send.specs.Send.{readyStep}
 use Rattle.ioctl.specs.Ioctl.{sendingStep, sendingNext}
-use Rattle.sending.specs.Sending as send
+use Rattle.send_points.specs.SendPoints as send
 use Rattle.replying.specs.Replying.{pointBy}
 use borrow.Author.Needs.{needs}
 use Rattle.replying.proofs.ready_read.Statement.{statement}

@@ -1,6 +1,6 @@
 use mathlib.Core.Path.{refl}
 use Rattle.ioctl.specs.Ioctl as to
-use Rattle.sending.specs.Sending as send
+use Rattle.send_points.specs.SendPoints as send
 use Rattle.replying.specs.Replying.{headerIn}
 use Rattle.replying.proofs.Laws.{follows}
 use borrow.Author.Needs.{needs}

@@ -9,7 +9,7 @@ use Rattle.send.specs.Send.{sendOp, stallOp}
 use Rattle.ioctl.specs.Ioctl.{ioctlOp}
 use Rattle.poll_points.specs.declared.PollAt.{PollAt}
 use Rattle.poll_points.specs.PollPoints as poll
-use Rattle.sending.specs.Sending as send
+use Rattle.send_points.specs.SendPoints as send
 use Rattle.replying.specs.declared.IoctlKind.{IoctlKind}
 use Rattle.replying.specs.Replying.{pointBy}
 use Rattle.replying.proofs.IoctlKind.{the-type}

@@ -3,10 +3,10 @@ use native.Mathlib.Omega.{arith}
 use borrow.Author.Tests.{lt-ltb, le-ltb}
 use Rattle.send.specs.declared.HeaderPut.{HeaderPut}
 use Rattle.send.specs.Send.{lateStep}
-use Rattle.sending.specs.Sending.{pointBy}
+use Rattle.send_points.specs.SendPoints.{pointBy}
 use borrow.Author.Needs.{needs}
-use Rattle.sending.proofs.stall_late.Statement.{statement}
-use Rattle.sending.proofs.stall_late.Tie as tie
+use Rattle.send_points.proofs.stall_late.Statement.{statement}
+use Rattle.send_points.proofs.stall_late.Tie as tie
 
 elapsed-us-requires : tie.Need-elapsed-us-requires
 elapsed-us-requires c κs = search needs

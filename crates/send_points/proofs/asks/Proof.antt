@@ -1,8 +1,8 @@
 use borrow.Author.Needs.{needs}
 use mathlib.Core.Path.{refl}
-use Rattle.sending.specs.Sending.{nextBy}
-use Rattle.sending.proofs.asks.Statement.{statement}
-use Rattle.sending.proofs.asks.Tie as tie
+use Rattle.send_points.specs.SendPoints.{nextBy}
+use Rattle.send_points.proofs.asks.Statement.{statement}
+use Rattle.send_points.proofs.asks.Tie as tie
 
 returns : tie.Need-returns
 unfolding nextBy

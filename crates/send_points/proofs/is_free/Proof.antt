@@ -3,8 +3,8 @@ use native.Mathlib.Omega.{arith}
 use borrow.Author.Tests.{eq-eqb, ne-eqb}
 use Rattle.definition.specs.Send.{free}
 use borrow.Author.Needs.{needs}
-use Rattle.sending.proofs.is_free.Statement.{statement}
-use Rattle.sending.proofs.is_free.Tie as tie
+use Rattle.send_points.proofs.is_free.Statement.{statement}
+use Rattle.send_points.proofs.is_free.Tie as tie
 
 sdpcm-at-requires : tie.Need-sdpcm-at-requires
 sdpcm-at-requires c κs = search needs

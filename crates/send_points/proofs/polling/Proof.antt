@@ -1,9 +1,9 @@
 use Rattle.send.specs.declared.HeaderPut.{HeaderPut}
 use Rattle.send.specs.Send.{pollingStep}
-use Rattle.sending.specs.Sending.{pointBy}
+use Rattle.send_points.specs.SendPoints.{pointBy}
 use borrow.Author.Needs.{needs}
-use Rattle.sending.proofs.polling.Statement.{statement}
-use Rattle.sending.proofs.polling.Tie as tie
+use Rattle.send_points.proofs.polling.Statement.{statement}
+use Rattle.send_points.proofs.polling.Tie as tie
 
 poll-from-requires : tie.Need-poll-from-requires
 poll-from-requires c κs = search needs

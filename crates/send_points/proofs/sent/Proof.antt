@@ -1,7 +1,7 @@
-use Rattle.sending.specs.Sending.{nextBy}
+use Rattle.send_points.specs.SendPoints.{nextBy}
 use borrow.Author.Needs.{needs}
-use Rattle.sending.proofs.sent.Statement.{statement}
-use Rattle.sending.proofs.sent.Tie as tie
+use Rattle.send_points.proofs.sent.Statement.{statement}
+use Rattle.send_points.proofs.sent.Tie as tie
 
 ended-requires : tie.Need-ended-requires
 ended-requires c κs = search needs

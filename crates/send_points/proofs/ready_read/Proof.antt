@@ -4,10 +4,10 @@ use lib.Dec.{eqb}
 use borrow.Author.Tests.{eq-eqb, ne-eqb, not-true, not-false}
 use Rattle.send.specs.declared.HeaderPut.{HeaderPut}
 use Rattle.send.specs.Send.{readyStep}
-use Rattle.sending.specs.Sending.{pointBy}
+use Rattle.send_points.specs.SendPoints.{pointBy}
 use borrow.Author.Needs.{needs}
-use Rattle.sending.proofs.ready_read.Statement.{statement}
-use Rattle.sending.proofs.ready_read.Tie as tie
+use Rattle.send_points.proofs.ready_read.Statement.{statement}
+use Rattle.send_points.proofs.ready_read.Tie as tie
 
 f2-ready-requires : tie.Need-f2-ready-requires
 f2-ready-requires c κs = search needs
