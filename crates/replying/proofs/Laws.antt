@@ -33,9 +33,10 @@ use Rattle.send_points.specs.declared.SendNow.{SendNow}
 use Rattle.send_points.specs.SendPoints as send
 use Rattle.sending.specs.Sending.{Spends, Sends}
 use Rattle.sending.proofs.Laws as sending
-use Rattle.replying.specs.declared.IoctlNow.{IoctlNow}
-use Rattle.replying.specs.declared.IoctlNowKind.{IoctlNowKind}
-use Rattle.replying.specs.Replying.{headerIn, nextBy, nextOf, stays, firstStep, Numbered, Follows, Starts, Replies}
+use Rattle.reply_points.specs.declared.IoctlNow.{IoctlNow}
+use Rattle.reply_points.specs.declared.IoctlNowKind.{IoctlNowKind}
+use Rattle.reply_points.specs.ReplyPoints.{headerIn, nextBy, nextOf, stays}
+use Rattle.replying.specs.Replying.{firstStep, Numbered, Follows, Starts, Replies}
 
 -- the state alone changed, so what is kept gives the same
 front-kept : (u b : List ℕ) {d : List ℕ} (t : State) → Kept u → isSession b ≡ true → Holds d (withState b t) → backSession u d ≡ backSession u b

@@ -3,20 +3,20 @@ use Rattle.send.specs.declared.HeaderPut.{HeaderPut}
 use Rattle.send.specs.Send as snd
 use Rattle.ioctl.specs.Ioctl.{ioctlOp, ioctlAnswer, atFirst, atTest, sendingStep, sendingNext}
 use Rattle.send_points.specs.SendPoints as send
-use Rattle.replying.specs.Replying.{pointBy}
+use Rattle.reply_points.specs.ReplyPoints.{pointBy}
 use Rattle.replying.proofs.Laws.{still, unlaid}
 use borrow.Author.Needs.{needs}
 use Rattle.replying.proofs.ioctl_answer.Statement.{statement}
 use Rattle.replying.proofs.ioctl_answer.Tie as tie
 use Rattle.replying.proofs.ioctl_answer.Reads as reads
 use Rattle.replying.proofs.ioctl_answer.Lts as lts
-use Rattle.replying.proofs.ready_read.Reads as ready-read-reads
+use Rattle.reply_points.proofs.ready_read.Reads as ready-read-reads
 use Rattle.replying.proofs.reply_poll.Reads as reply-poll-reads
 use Rattle.replying.proofs.sent.Reads as sent-reads
 use Rattle.replying.proofs.stall_answer.Reads as stall-answer-reads
-use Rattle.replying.proofs.stalls.Reads as stalls-reads
-use Rattle.replying.proofs.test_read.Reads as test-read-reads
-use Rattle.replying.proofs.waits.Reads as waits-reads
+use Rattle.reply_points.proofs.stalls.Reads as stalls-reads
+use Rattle.reply_points.proofs.test_read.Reads as test-read-reads
+use Rattle.reply_points.proofs.waits.Reads as waits-reads
 
 enum-told : tie.Need-enum-told
 enum-told c = search needs

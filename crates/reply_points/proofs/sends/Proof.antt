@@ -1,10 +1,7 @@
-use Rattle.replying.specs.Replying.{pointBy}
+use Rattle.reply_points.specs.ReplyPoints.{pointBy}
 use borrow.Author.Needs.{needs}
-use Rattle.replying.proofs.sends.Statement.{statement}
-use Rattle.replying.proofs.sends.Tie as tie
-use Rattle.replying.proofs.sends.Reads as reads
-use Rattle.replying.proofs.sends.Lts as lts
-use Rattle.replying.proofs.asks.Reads as asks-reads
+use Rattle.reply_points.proofs.sends.Statement.{statement}
+use Rattle.reply_points.proofs.sends.Tie as tie
 
 enum-told : tie.Need-enum-told
 enum-told c = search needs

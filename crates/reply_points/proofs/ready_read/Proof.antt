@@ -6,15 +6,10 @@ use Rattle.send.specs.declared.HeaderPut.{HeaderPut}
 use Rattle.send.specs.Send.{readyStep}
 use Rattle.ioctl.specs.Ioctl.{sendingStep, sendingNext}
 use Rattle.send_points.specs.SendPoints as send
-use Rattle.replying.specs.Replying.{pointBy}
+use Rattle.reply_points.specs.ReplyPoints.{pointBy}
 use borrow.Author.Needs.{needs}
-use Rattle.replying.proofs.ready_read.Statement.{statement}
-use Rattle.replying.proofs.ready_read.Tie as tie
-use Rattle.replying.proofs.ready_read.Reads as reads
-use Rattle.replying.proofs.ready_read.Lts as lts
-use Rattle.replying.proofs.refuse.Reads as refuse-reads
-use Rattle.replying.proofs.waits.Reads as waits-reads
-use Rattle.sdpcm.proofs.status.f2_ready.Reads as f2-ready-reads
+use Rattle.reply_points.proofs.ready_read.Statement.{statement}
+use Rattle.reply_points.proofs.ready_read.Tie as tie
 
 f2-ready-requires : tie.Need-f2-ready-requires
 f2-ready-requires c κs = search needs

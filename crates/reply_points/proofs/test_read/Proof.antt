@@ -3,16 +3,10 @@ use native.Mathlib.Omega.{arith}
 use borrow.Author.Tests.{lt-ltb, le-ltb}
 use Rattle.send.specs.declared.HeaderPut.{HeaderPut}
 use Rattle.ioctl.specs.Ioctl.{testStep}
-use Rattle.replying.specs.Replying.{pointBy}
+use Rattle.reply_points.specs.ReplyPoints.{pointBy}
 use borrow.Author.Needs.{needs}
-use Rattle.replying.proofs.test_read.Statement.{statement}
-use Rattle.replying.proofs.test_read.Tie as tie
-use Rattle.replying.proofs.test_read.Reads as reads
-use Rattle.replying.proofs.test_read.Lts as lts
-use Rattle.poll_points.proofs.poll_from.Reads as poll-from-reads
-use Rattle.replying.proofs.asks.Reads as asks-reads
-use Rattle.replying.proofs.refuse.Reads as refuse-reads
-use Rattle.send.proofs.elapsed_us.Reads as elapsed-us-reads
+use Rattle.reply_points.proofs.test_read.Statement.{statement}
+use Rattle.reply_points.proofs.test_read.Tie as tie
 
 elapsed-us-requires : tie.Need-elapsed-us-requires
 elapsed-us-requires c κs = search needs

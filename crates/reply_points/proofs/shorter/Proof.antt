@@ -1,10 +1,8 @@
 use borrow.Author.Needs.{needs}
 use borrow.Author.Tests.{lt-ltb, le-ltb}
 use Rattle.ioctl.specs.Ioctl.{shorter}
-use Rattle.replying.proofs.shorter.Statement.{statement}
-use Rattle.replying.proofs.shorter.Tie as tie
-use Rattle.replying.proofs.shorter.Reads as reads
-use Rattle.replying.proofs.shorter.Lts as lts
+use Rattle.reply_points.proofs.shorter.Statement.{statement}
+use Rattle.reply_points.proofs.shorter.Tie as tie
 
 returns : tie.Need-returns
 unfolding shorter

@@ -2,11 +2,8 @@ use mathlib.Core.Path.{_≡_}
 use mir.Syntax.{w32}
 use mir.Val.{toZ, ofZ}
 use borrow.Author.Needs.{needs}
-use Rattle.replying.proofs.finish_stored.Statement.{statement}
-use Rattle.replying.proofs.finish_stored.Tie as tie
-use Rattle.replying.proofs.finish_stored.Reads as reads
-use Rattle.replying.proofs.finish_stored.Lts as lts
-use Rattle.replying.proofs.finish.Reads as finish-reads
+use Rattle.reply_points.proofs.finish_stored.Statement.{statement}
+use Rattle.reply_points.proofs.finish_stored.Tie as tie
 
 finish-requires : tie.Need-finish-requires
 finish-requires c κs = search needs

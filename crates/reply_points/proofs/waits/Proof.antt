@@ -1,10 +1,6 @@
 use borrow.Author.Needs.{needs}
-use Rattle.replying.proofs.waits.Statement.{statement}
-use Rattle.replying.proofs.waits.Tie as tie
-use Rattle.replying.proofs.waits.Reads as reads
-use Rattle.replying.proofs.waits.Lts as lts
-use Rattle.replying.proofs.asks.Reads as asks-reads
-use Rattle.replying.proofs.unpolled.Reads as unpolled-reads
+use Rattle.reply_points.proofs.waits.Statement.{statement}
+use Rattle.reply_points.proofs.waits.Tie as tie
 
 unpolled-requires : tie.Need-unpolled-requires
 unpolled-requires c κs = search needs

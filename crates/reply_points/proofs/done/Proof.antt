@@ -1,10 +1,7 @@
-use Rattle.replying.specs.Replying.{nextBy}
+use Rattle.reply_points.specs.ReplyPoints.{nextBy}
 use borrow.Author.Needs.{needs}
-use Rattle.replying.proofs.done.Statement.{statement}
-use Rattle.replying.proofs.done.Tie as tie
-use Rattle.replying.proofs.done.Reads as reads
-use Rattle.replying.proofs.done.Lts as lts
-use Rattle.replying.proofs.ended.Reads as ended-reads
+use Rattle.reply_points.proofs.done.Statement.{statement}
+use Rattle.reply_points.proofs.done.Tie as tie
 
 ended-requires : tie.Need-ended-requires
 ended-requires c κs = search needs
