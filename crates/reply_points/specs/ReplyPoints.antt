@@ -32,6 +32,19 @@ pointBy IoctlKind.Waited q t0 left n = IoctlPoint.Waited t0
 abbrev pub pointOf : IoctlAt → IoctlPoint
 pointOf p = pointBy (p .kind) (p .at) (p .t0) (p .left) (p .n)
 
+-- a stall's kind, as the send has it
+unfoldable pub stallOf : IoctlKind → SendKind
+stallOf IoctlKind.StallFirst = SendKind.First
+stallOf IoctlKind.StallPolling = SendKind.Polling
+stallOf IoctlKind.StallLate = SendKind.Late
+stallOf IoctlKind.StallWaited = SendKind.Waited
+stallOf IoctlKind.Ready = SendKind.Waited
+stallOf IoctlKind.Writing = SendKind.Waited
+stallOf IoctlKind.First = SendKind.Waited
+stallOf IoctlKind.Test = SendKind.Waited
+stallOf IoctlKind.Polling = SendKind.Waited
+stallOf IoctlKind.Waited = SendKind.Waited
+
 abbrev pub copied : ℕ → ℕ → Copied
 copied offset n = record { offset = offset; count = n }
 

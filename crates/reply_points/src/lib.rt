@@ -186,13 +186,25 @@ pub fn ready_read(left: u16, n: u16, v: u32) -> IoctlNow
     waits(IoctlKind::Ready, 0, left - 1, n)
 }
 
-// A point of the send's stall, as the send has it.
-pub fn stalls(kind: SendKind, p: IoctlAt) -> SendAt
-    ensures { λ r. ⌜ send.pointOf r ≡ send.pointBy kind (p .at) (p .t0) (p .left) (p .n) ⌝ }
+fn stall_kind(kind: IoctlKind) -> SendKind
+    ensures { λ r. ⌜ r ≡ at.stallOf kind ⌝ }
 {
+    match kind {
+        IoctlKind::StallFirst => SendKind::First,
+        IoctlKind::StallPolling => SendKind::Polling,
+        IoctlKind::StallLate => SendKind::Late,
+        _ => SendKind::Waited,
+    }
+}
+
+// A point of the send's stall, as the send has it.
+pub fn stalls(p: IoctlAt) -> SendAt
+    ensures { λ r. ⌜ send.pointOf r ≡ send.pointBy (at.stallOf (p .kind)) (p .at) (p .t0) (p .left) (p .n) ⌝ }
+{
+    let k = p.kind;
     let q = p.at;
     SendAt {
-        kind: kind,
+        kind: stall_kind(k),
         at: q,
         t0: p.t0,
         left: p.left,

@@ -24,7 +24,6 @@ use reply_points::test_read;
 use reply_points::waits;
 use sdpcm::header::next_id;
 use send_points::SendAt;
-use send_points::SendKind;
 use send_points::SendNow;
 use send_points::SentKind;
 use send_points::is_free;
@@ -201,10 +200,10 @@ pub fn ioctl_answer(
     let q = p.at;
     let t0 = p.t0;
     match k {
-        IoctlKind::StallFirst => stall_answer(s, undo, buf, len, stalls(SendKind::First, p), v),
-        IoctlKind::StallPolling => stall_answer(s, undo, buf, len, stalls(SendKind::Polling, p), v),
-        IoctlKind::StallLate => stall_answer(s, undo, buf, len, stalls(SendKind::Late, p), v),
-        IoctlKind::StallWaited => stall_answer(s, undo, buf, len, stalls(SendKind::Waited, p), v),
+        IoctlKind::StallFirst
+        | IoctlKind::StallPolling
+        | IoctlKind::StallLate
+        | IoctlKind::StallWaited => stall_answer(s, undo, buf, len, stalls(p), v),
         IoctlKind::Ready => ready_read(p.left, p.n, (v % 4294967296) as u32),
         IoctlKind::Writing => sent(s, len),
         IoctlKind::First => waits(IoctlKind::Test, v, 0, 0),

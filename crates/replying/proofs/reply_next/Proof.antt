@@ -14,13 +14,6 @@ use Rattle.replying.proofs.Laws.{still, unlaid, heard}
 use borrow.Author.Needs.{needs}
 use Rattle.replying.proofs.reply_next.Statement.{statement}
 use Rattle.replying.proofs.reply_next.Tie as tie
-use Rattle.replying.proofs.reply_next.Reads as reads
-use Rattle.replying.proofs.reply_next.Lts as lts
-use Rattle.arriving.proofs.handle_async_event.Reads as handle-async-event-reads
-use Rattle.reply_points.proofs.asks.Reads as asks-reads
-use Rattle.reply_points.proofs.finish.Reads as finish-reads
-use Rattle.reply_points.proofs.refuse.Reads as refuse-reads
-use Rattle.reply_points.proofs.waits.Reads as waits-reads
 
 enum-told : tie.Need-enum-told
 enum-told c = search needs

@@ -6,11 +6,6 @@ use Rattle.replying.proofs.Laws.{follows}
 use borrow.Author.Needs.{needs}
 use Rattle.replying.proofs.sending_next.Statement.{statement}
 use Rattle.replying.proofs.sending_next.Tie as tie
-use Rattle.replying.proofs.sending_next.Reads as reads
-use Rattle.replying.proofs.sending_next.Lts as lts
-use Rattle.reply_points.proofs.refuse.Reads as refuse-reads
-use Rattle.reply_points.proofs.sends.Reads as sends-reads
-use Rattle.replying.proofs.sent.Reads as sent-reads
 
 enum-told : tie.Need-enum-told
 enum-told c = search needs

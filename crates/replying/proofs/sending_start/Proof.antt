@@ -8,11 +8,6 @@ use Rattle.replying.proofs.Laws.{unemitted}
 use borrow.Author.Needs.{needs}
 use Rattle.replying.proofs.sending_start.Statement.{statement}
 use Rattle.replying.proofs.sending_start.Tie as tie
-use Rattle.replying.proofs.sending_start.Reads as reads
-use Rattle.replying.proofs.sending_start.Lts as lts
-use Rattle.replying.proofs.emit.Reads as emit-reads
-use Rattle.reply_points.proofs.waits.Reads as waits-reads
-use Rattle.send_points.proofs.is_free.Reads as is-free-reads
 
 is-free-requires : tie.Need-is-free-requires
 is-free-requires c κs = search needs
