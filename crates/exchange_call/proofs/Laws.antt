@@ -35,8 +35,8 @@ use Rattle.session_bytes.specs.Session.{isSession, sessionIn}
 use Rattle.going.specs.Onward.{go}
 use Rattle.asking.specs.declared.Asked.{Asked}
 use Rattle.asking.specs.Asking.{Asks, followed}
-use Rattle.replying.specs.declared.IoctlNow.{IoctlNow}
-use Rattle.replying.specs.Replying as reply
+use Rattle.reply_points.specs.declared.IoctlNow.{IoctlNow}
+use Rattle.reply_points.specs.ReplyPoints as reply
 use Rattle.exchanging.specs.declared.now.CallNow.{CallNow}
 use Rattle.plans.specs.declared.Plan.{Plan}
 use Rattle.plans.specs.Plans as plan

@@ -21,7 +21,7 @@ use plans::exchange_plan;
 use plans::fault_plan;
 use plans::resume_of;
 use plans::tick_plan;
-use replying::IoctlAt;
+use reply_points::IoctlAt;
 use run_end::RunEnd;
 use run_end::done_end;
 use run_end::error_end;

@@ -30,8 +30,9 @@ use Rattle.hearing.proofs.Laws.{records-kept, cleared-kept}
 use Rattle.undo.specs.Undo.{Kept, backSession}
 use Rattle.undo.proofs.Laws.{front-changed}
 use Rattle.laying.specs.Laying.{LaidKept}
-use Rattle.replying.specs.declared.IoctlNow.{IoctlNow}
-use Rattle.replying.specs.Replying as reply
+use Rattle.reply_points.specs.declared.IoctlNow.{IoctlNow}
+use Rattle.reply_points.specs.ReplyPoints as reply
+use Rattle.replying.specs.Replying.{Starts}
 use Rattle.exchanging.specs.declared.now.CallNow.{CallNow}
 use Rattle.exchanging.specs.Exchanging.{nextOf, Sets, Clears, leftBy, Acts}
 
@@ -135,7 +136,7 @@ key-act {a} {u} {v} {b} {c₀} {c} before put hb n e l k =
 -- ---- after the first step of `do_ioctl`
 
 pub begun : {a : Args} {u v b m d : List ℕ} {c₀ c f : Bytes} {n : IoctlNow} {r : CallNow} (x : IoctlStep) (g : Stage) (h : Bool) (before : Before) (put : RequestPut)
-    → c ≡ laidRequest a put (laidBefore before c₀) → reply.Starts u v b m c f n x
+    → c ≡ laidRequest a put (laidBefore before c₀) → Starts u v b m c f n x
     → ((y : HeaderPut) → Sets m d r h (lays before put (reply.headerIn (reply.nextOf n y))) (to.begunBy (reply.nextOf n y) (sessionIn m .st) g h before put))
     → Acts a u v b d c₀ c f r h (to.begun x g h before put)
 unfolding laidAll

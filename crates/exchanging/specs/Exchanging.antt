@@ -19,7 +19,7 @@ use Rattle.session_bytes.specs.declared.session.Session.{Session}
 use Rattle.session_bytes.specs.Session.{sessionIn, withState}
 use Rattle.places.specs.Places.{Holds}
 use Rattle.undo.specs.Undo.{Kept, backSession, backBuf}
-use Rattle.replying.specs.Replying as reply
+use Rattle.reply_points.specs.ReplyPoints as reply
 use Rattle.plans.specs.Plans.{pauseBy}
 use Rattle.exchanging.specs.declared.now.CallKind.{CallKind}
 use Rattle.exchanging.specs.declared.now.CallNow.{CallNow}

@@ -4,13 +4,13 @@ use control::Stage;
 use plans::PauseKind;
 use poll_points::PollAt;
 use poll_points::PollKind;
-use replying::IoctlAt;
-use replying::IoctlKind;
+use reply_points::IoctlAt;
+use reply_points::IoctlKind;
 use wlan::DriverError;
 ghost use mathlib.Core.Path.{_≡_};
 ghost use Rattle.control.specs.declared.CallNext as next;
 ghost use Rattle.control.specs.declared.CallPoint as point;
-ghost use Rattle.replying.specs.Replying as reply;
+ghost use Rattle.reply_points.specs.ReplyPoints as reply;
 ghost use Rattle.plans.specs.Plans as plans;
 ghost use Rattle.exchanging.specs.Exchanging as at;
 

@@ -37,9 +37,10 @@ use Rattle.going.proofs.Going.{go-unroll}
 use Rattle.asking.specs.declared.Asked.{Asked}
 use Rattle.asking.specs.declared.Back.{Back}
 use Rattle.asking.specs.Asking.{Asks, asked, followed, unlessBack}
-use Rattle.replying.specs.declared.IoctlNow.{IoctlNow}
-use Rattle.replying.specs.declared.IoctlNowKind.{IoctlNowKind}
-use Rattle.replying.specs.Replying as reply
+use Rattle.reply_points.specs.declared.IoctlNow.{IoctlNow}
+use Rattle.reply_points.specs.declared.IoctlNowKind.{IoctlNowKind}
+use Rattle.reply_points.specs.ReplyPoints as reply
+use Rattle.replying.specs.Replying.{Replies}
 use Rattle.plans.specs.Plans as plan
 use Rattle.turning.specs.Turning as turning
 use Rattle.turning.proofs.Laws as law
@@ -61,12 +62,12 @@ module _ (a : Args) (m : Modest a) (q : CallPoint) (y : Ans) (b₀ c : Bytes) (i
 -- a step of an exchange; n: how long its payload is
 stepped : (a : Args) (g : Stage) (p : IoctlPoint) (y : Ans) (b₀ c : Bytes) → InRange (ioctlOp p) y → c ≡ landing (ioctlOp p) y b₀ → (e : World) (rec log : List ℕ) (pos len : ℕ) (b : List ℕ) (x : BusAnswer) → x ≡ told y
     → {n : ℕ} → to.Fits a g n → {u v d : List ℕ} {f : Bytes} {r : IoctlNow}
-    → reply.Replies u v b d c f r (arrivalAt (ioctlOp p) c (sessionIn b .st .sdpcm) .event) (ioctlAnswer (sessionIn b .st) n p x (arrivalAt (ioctlOp p) c (sessionIn b .st .sdpcm)))
+    → Replies u v b d c f r (arrivalAt (ioctlOp p) c (sessionIn b .st .sdpcm) .event) (ioctlAnswer (sessionIn b .st) n p x (arrivalAt (ioctlOp p) c (sessionIn b .st .sdpcm)))
     → to.Answered a g e (go e (drop pos rec) log len (Kc a (CallPoint.Exchange g p) y (turning.worldIn b b₀))) rec r pos len log d f
 unfolding callOp callAnswer exchangeAnswer
 stepped a g p y b₀ c i hb e rec log pos len b x hx {n} h {u} {v} {d} {f} {r} k₀ =
     let s = ioctlAnswer (sessionIn b .st) (requestLen (requestAt (a .job) g) (lensOf a)) p x (arrivalAt (ioctlOp p) c (sessionIn b .st .sdpcm)) in
-    let k : reply.Replies u v b d c f r (arrivalAt (ioctlOp p) c (sessionIn b .st .sdpcm) .event) s = rw (h .len) at k₀ in
+    let k : Replies u v b d c f r (arrivalAt (ioctlOp p) c (sessionIn b .st .sdpcm) .event) s = rw (h .len) at k₀ in
     record {
       heard = s .heard;
       header = reply.headerIn (s .next);
@@ -156,7 +157,7 @@ module _ (x : Args) (g : Stage) {n : ℕ} (f : to.Fits x g n) (p : IoctlPoint) {
   Comes = to.Stood x g e (go e (drop pos rec) log₀ len (callTree x (CallNext.Ask (CallPoint.Exchange g p)) (turning.worldIn s b))) rec r log d c₁
 
   abbrev Steps : List ℕ → List ℕ → BusAnswer → Type 0
-  Steps u v y = reply.Replies u v s d c c₁ (r .now) (arrivalAt (ioctlOp p) c (sessionIn s .st .sdpcm) .event) (ioctlAnswer (sessionIn s .st) n p y (arrivalAt (ioctlOp p) c (sessionIn s .st .sdpcm)))
+  Steps u v y = Replies u v s d c c₁ (r .now) (arrivalAt (ioctlOp p) c (sessionIn s .st .sdpcm) .event) (ioctlAnswer (sessionIn s .st) n p y (arrivalAt (ioctlOp p) c (sessionIn s .st .sdpcm)))
 
   pub back-comes : turning.isBack (a .back) ≡ true → Comes
   unfolding callTree callOp

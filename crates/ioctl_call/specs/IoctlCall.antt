@@ -23,9 +23,9 @@ use Rattle.control.specs.Meaning.{Args, lensOf, callTree, callShown}
 use Rattle.session_bytes.specs.Session.{sessionIn}
 use Rattle.going.specs.Onward.{go}
 use Rattle.asking.specs.Asking.{followed, unlessBack}
-use Rattle.replying.specs.declared.IoctlAt.{IoctlAt}
-use Rattle.replying.specs.declared.IoctlNow.{IoctlNow}
-use Rattle.replying.specs.Replying as reply
+use Rattle.reply_points.specs.declared.IoctlAt.{IoctlAt}
+use Rattle.reply_points.specs.declared.IoctlNow.{IoctlNow}
+use Rattle.reply_points.specs.ReplyPoints as reply
 use Rattle.plans.specs.Plans.{isAsk}
 use Rattle.turning.specs.Turning.{worldIn, isBack}
 use Rattle.ioctl_call.specs.declared.IoctlTurned.{IoctlTurned}

@@ -16,9 +16,9 @@ use Rattle.control.specs.Stages.{isTried}
 use Rattle.control.specs.Exchange as to
 use Rattle.undo.specs.Undo.{Kept}
 use Rattle.laying.specs.Laying.{LaidKept}
-use Rattle.replying.specs.declared.IoctlNow.{IoctlNow}
-use Rattle.replying.specs.declared.IoctlNowKind.{IoctlNowKind}
-use Rattle.replying.specs.Replying as reply
+use Rattle.reply_points.specs.declared.IoctlNow.{IoctlNow}
+use Rattle.reply_points.specs.declared.IoctlNowKind.{IoctlNowKind}
+use Rattle.reply_points.specs.ReplyPoints as reply
 use Rattle.plans.specs.Plans.{isAsk, goesOn, isIgnored, stopStep, beforeIn}
 
 by-next : (j : Job) (l : Lens) (g : Stage) (s : State) (h : Bool) (x : HeaderPut) (n : IoctlNow) (k : IoctlNowKind) → isAsk k ≡ false

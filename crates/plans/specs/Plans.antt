@@ -25,7 +25,7 @@ use Rattle.control.specs.declared.Stage.{Stage}
 use Rattle.control.specs.Steps.{lays, step, asks, ends, refuses, linkedState}
 use Rattle.control.specs.Stages.{requestAt, requestLen, isTried, isLast}
 use Rattle.control.specs.Exchange as to
-use Rattle.replying.specs.declared.IoctlNowKind.{IoctlNowKind}
+use Rattle.reply_points.specs.declared.IoctlNowKind.{IoctlNowKind}
 use Rattle.plans.specs.declared.PauseKind.{PauseKind}
 use Rattle.plans.specs.declared.BeginKind.{BeginKind}
 use Rattle.plans.specs.declared.Plan.{Plan}

@@ -2,8 +2,8 @@
 use control::Job;
 use control::Stage;
 use laying::copy_reply;
-use replying::IoctlNow;
-use replying::IoctlNowKind;
+use reply_points::IoctlNow;
+use reply_points::IoctlNowKind;
 use requests::security::pmk;
 use requests::security::sae;
 use send::elapsed_us;
@@ -30,7 +30,7 @@ ghost use Rattle.control.specs.Exchange as to;
 ghost use Rattle.control.specs.Meaning.{laidBefore};
 ghost use Rattle.undo.specs.Undo.{Kept};
 ghost use Rattle.laying.specs.Laying.{LaidKept};
-ghost use Rattle.replying.specs.Replying as reply;
+ghost use Rattle.reply_points.specs.ReplyPoints as reply;
 ghost use Rattle.plans.specs.Plans as at;
 
 // The waits of a call.

@@ -29,12 +29,14 @@ use Rattle.hearing.proofs.Laws.{records-kept}
 use Rattle.undo.specs.Undo.{Kept, backSession}
 use Rattle.undo.proofs.Laws.{front-changed}
 use Rattle.arriving.specs.Arriving.{KeptFor, handledSession}
-use Rattle.sending.specs.declared.SendNow.{SendNow}
-use Rattle.sending.specs.Sending as send
+use Rattle.send_points.specs.declared.SendNow.{SendNow}
+use Rattle.send_points.specs.SendPoints as send
+use Rattle.sending.specs.Sending.{Spends, Sends}
 use Rattle.sending.proofs.Laws as sending
-use Rattle.replying.specs.declared.IoctlNow.{IoctlNow}
-use Rattle.replying.specs.declared.IoctlNowKind.{IoctlNowKind}
-use Rattle.replying.specs.Replying.{headerIn, nextBy, nextOf, stays, firstStep, Numbered, Follows, Starts, Replies}
+use Rattle.reply_points.specs.declared.IoctlNow.{IoctlNow}
+use Rattle.reply_points.specs.declared.IoctlNowKind.{IoctlNowKind}
+use Rattle.reply_points.specs.ReplyPoints.{headerIn, nextBy, nextOf, stays}
+use Rattle.replying.specs.Replying.{firstStep, Numbered, Follows, Starts, Replies}
 
 -- the state alone changed, so what is kept gives the same
 front-kept : (u b : List ℕ) {d : List ℕ} (t : State) → Kept u → isSession b ≡ true → Holds d (withState b t) → backSession u d ≡ backSession u b
@@ -69,13 +71,13 @@ follows-moved {b} {m} {d} {t} {r} {h} {x} f k q =
 abbrev Sent : List ℕ → List ℕ → SendNow → IoctlNow → ℕ → Type 0
 Sent m d n r len = (h : Bool) (x : HeaderPut) → Follows m d r h (send.headerIn (send.nextOf n x)) (to.sendingNext (sessionIn m .st) h len (send.nextOf n x))
 
-sent-by : {u v b m d : List ℕ} {c f : Bytes} {n : SendNow} {r : IoctlNow} (e : AsyncEvent) (x : SendStep) (len : ℕ) → send.Sends u v b m c f n e x → Sent m d n r len → Follows m d r (x .heard) (send.headerIn (x .next)) (to.sendingStep x len)
+sent-by : {u v b m d : List ℕ} {c f : Bytes} {n : SendNow} {r : IoctlNow} (e : AsyncEvent) (x : SendStep) (len : ℕ) → Sends u v b m c f n e x → Sent m d n r len → Follows m d r (x .heard) (send.headerIn (x .next)) (to.sendingStep x len)
 unfolding to.sendingStep
 sent-by {u} {v} {b} {m} {d} {c} {f} {n} {r} e x len k q =
     let es : sessionIn m .st ≡ x .st = ap (λ (s : Session). s .st) (k .held .back) in
     rw (k .next, es) at (q (x .heard) (send.headerIn (x .next)))
 
-pub after-send : {u v b m d : List ℕ} {c f : Bytes} {n : SendNow} {r : IoctlNow} (e : AsyncEvent) (x : SendStep) (len : ℕ) → send.Sends u v b m c f n e x → Sent m d n r len → Replies u v b d c f r e (to.sendingStep x len)
+pub after-send : {u v b m d : List ℕ} {c f : Bytes} {n : SendNow} {r : IoctlNow} (e : AsyncEvent) (x : SendStep) (len : ℕ) → Sends u v b m c f n e x → Sent m d n r len → Replies u v b d c f r e (to.sendingStep x len)
 after-send {u} {v} {b} {m} {d} {c} {f} {n} {r} e x len k q =
     let g = sent-by e x len k q in
     let el : sessionIn m .list ≡ listHeard (x .heard) e (sessionIn b .list) = ap (λ (s : Session). s .list) (k .held .back) in
@@ -91,7 +93,7 @@ after-send {u} {v} {b} {m} {d} {c} {f} {n} {r} e x len k q =
 -- ---- the first step
 
 -- n: what is next once the header is laid and the sequence number spent
-pub emitted : {u v b d : List ℕ} {c f : Bytes} {o : OutPacket} {r : IoctlNow} {n : IoctlNext} → send.Spends u v b d c f o
+pub emitted : {u v b d : List ℕ} {c f : Bytes} {o : OutPacket} {r : IoctlNow} {n : IoctlNext} → Spends u v b d c f o
     → headerIn n ≡ snd.putOf (sessionIn b .st) o → nextOf r (snd.putOf (sessionIn b .st) o) ≡ n → Starts u v b d c f r (to.step (snd.spending (sessionIn b .st)) false n)
 emitted w i e = record { next = rw i e; laid = rw i (w .laid); held = w .held; kept = w .kept; session = w .session; buf = w .buf }
 

@@ -54,10 +54,11 @@ use Rattle.undo.proofs.Parts.{drop-over-past}
 use Rattle.asking.specs.declared.Asked.{Asked}
 use Rattle.asking.specs.declared.Back.{Back}
 use Rattle.asking.specs.Asking.{Asks}
-use Rattle.sending.specs.declared.SendAt.{SendAt}
-use Rattle.sending.specs.declared.SendNow.{SendNow}
-use Rattle.sending.specs.declared.SentKind.{SentKind}
-use Rattle.sending.specs.Sending.{headerIn, nextBy, listed, Covered, Sends}
+use Rattle.send_points.specs.declared.SendAt.{SendAt}
+use Rattle.send_points.specs.declared.SendNow.{SendNow}
+use Rattle.send_points.specs.declared.SentKind.{SentKind}
+use Rattle.send_points.specs.SendPoints.{headerIn, nextBy}
+use Rattle.sending.specs.Sending.{listed, Covered, Sends}
 use Rattle.sending.proofs.Laws.{faulted}
 use Rattle.run_end.specs.RunEnd as ending
 use Rattle.turning.specs.Turning as turning

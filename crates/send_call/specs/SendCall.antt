@@ -20,10 +20,10 @@ use Rattle.jobs.specs.Jobs.{frameJob}
 use Rattle.session_bytes.specs.Session.{sessionIn}
 use Rattle.going.specs.Onward.{go}
 use Rattle.turning.specs.Turning.{worldIn, Ends}
-use Rattle.sending.specs.declared.SendAt.{SendAt}
-use Rattle.sending.specs.declared.SendNow.{SendNow}
-use Rattle.sending.specs.declared.SentKind.{SentKind}
-use Rattle.sending.specs.Sending.{pointOf}
+use Rattle.send_points.specs.declared.SendAt.{SendAt}
+use Rattle.send_points.specs.declared.SendNow.{SendNow}
+use Rattle.send_points.specs.declared.SentKind.{SentKind}
+use Rattle.send_points.specs.SendPoints.{pointOf}
 use Rattle.send_call.specs.declared.SendTurned.{SendTurned}
 
 -- the frame is a send's byte argument

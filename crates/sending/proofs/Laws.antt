@@ -33,9 +33,10 @@ use Rattle.undo.specs.Undo.{Kept, keptOf, backSession, backBuf}
 use Rattle.undo.proofs.Laws.{buf-changed, front-changed}
 use Rattle.undo.proofs.Parts.{drop-over-past}
 use Rattle.arriving.specs.Arriving.{KeptFor, handledSession}
-use Rattle.sending.specs.declared.SendNow.{SendNow}
-use Rattle.sending.specs.declared.SentKind.{SentKind}
-use Rattle.sending.specs.Sending.{headerIn, nextBy, nextOf, Covered, Spends, Emits, Sends}
+use Rattle.send_points.specs.declared.SendNow.{SendNow}
+use Rattle.send_points.specs.declared.SentKind.{SentKind}
+use Rattle.send_points.specs.SendPoints.{headerIn, nextBy, nextOf}
+use Rattle.sending.specs.Sending.{Covered, Spends, Emits, Sends}
 
 -- ---- a fault
 

@@ -4,17 +4,25 @@ use arriving::handle_async_event;
 use places::write::put_sdpcm;
 use places_read::sdpcm_at;
 use poll_points::PollAt;
-use poll_points::PollKind;
 use poll_points::Polled;
 use poll_points::PolledKind;
-use poll_points::poll_from;
 use receive::poll_device;
 use receive::store_reply;
 use sdpcm::header::next_seq;
 use sdpcm::header::put_header;
-use sdpcm::status::f2_ready;
 use send::OutPacket;
-use send::elapsed_us;
+use send_points::SendAt;
+use send_points::SendKind;
+use send_points::SendNow;
+use send_points::asks;
+use send_points::emitted;
+use send_points::is_free;
+use send_points::polling;
+use send_points::ready_read;
+use send_points::refuse;
+use send_points::sent;
+use send_points::stall_late;
+use send_points::waits;
 use undo::keep;
 use wlan::DriverError;
 ghost use mathlib.Core.Path.{_≡_};
@@ -23,127 +31,17 @@ ghost use lib.ListN.{length, drop};
 ghost use Rattle.slices.specs.Over.{over};
 ghost use Rattle.wlan.specs.declared.AsyncEvent.{AsyncEvent};
 ghost use Rattle.wlan.specs.declared.BusAnswer.{BusAnswer};
-ghost use Rattle.wlan.specs.declared.State.{State};
 ghost use Rattle.definition.specs.Event.{eventOf};
 ghost use Rattle.definition.specs.Packet.{header};
-ghost use Rattle.definition.specs.Send.{free};
 ghost use Rattle.handling.specs.Handle.{handledOf};
 ghost use Rattle.device.specs.Poll.{pollOp};
 ghost use Rattle.device.specs.Meaning.{arrivalAt, Tells};
-ghost use Rattle.send.specs.declared.HeaderPut.{HeaderPut};
-ghost use Rattle.send.specs.declared.SendNext as next;
 ghost use Rattle.send.specs.Send as to;
 ghost use Rattle.session_bytes.specs.Session.{isSession, sessionIn};
 ghost use Rattle.poll_points.specs.PollPoints as poll;
 ghost use Rattle.undo.specs.Undo.{Kept};
+ghost use Rattle.send_points.specs.SendPoints.{pointOf};
 ghost use Rattle.sending.specs.Sending as at;
-
-pub enum SendKind {
-    First,
-    Polling,
-    Late,
-    Waited,
-    Ready,
-    Writing,
-}
-
-// Where a send waits. at: the operation of a stall's poll; t0: the clock at a stall's start; left: how many status reads are left; n: the
-// packet's length.
-pub struct SendAt {
-    pub kind: SendKind,
-    pub at: PollAt,
-    pub t0: u64,
-    pub left: u16,
-    pub n: u16,
-}
-
-pub enum SentKind {
-    Ask,
-    Sent,
-    Refused,
-}
-
-// What a step comes to: the next operation, the end, or a refusal.
-pub struct SendNow {
-    pub kind: SentKind,
-    pub at: SendAt,
-    pub error: DriverError,
-}
-
-fn asks(kind: SendKind, q: PollAt, t0: u64, left: u16, n: u16) -> SendNow
-    ensures { λ r. ⌜ ((h : HeaderPut) → at.nextOf r h ≡ next.SendNext.Ask h (at.pointBy kind q t0 left n)) ⌝ }
-{
-    SendNow {
-        kind: SentKind::Ask,
-        at: SendAt {
-            kind: kind,
-            at: q,
-            t0: t0,
-            left: left,
-            n: n,
-        },
-        error: DriverError::Io,
-    }
-}
-
-// A point outside a poll.
-fn waits(kind: SendKind, t0: u64, left: u16, n: u16) -> SendNow
-    ensures { λ r. ⌜ ((h : HeaderPut) → at.nextOf r h ≡ next.SendNext.Ask h (at.pointBy kind at.unpolled t0 left n)) ⌝ }
-{
-    asks(
-        kind,
-        PollAt {
-            kind: PollKind::Interrupt,
-            n: 0,
-        },
-        t0,
-        left,
-        n,
-    )
-}
-
-fn ended(kind: SentKind, e: DriverError) -> SendNow
-    ensures { λ r. ⌜ (r .kind ≡ kind) × (r .error ≡ e) ⌝ }
-{
-    SendNow {
-        kind: kind,
-        at: SendAt {
-            kind: SendKind::First,
-            at: PollAt {
-                kind: PollKind::Interrupt,
-                n: 0,
-            },
-            t0: 0,
-            left: 0,
-            n: 0,
-        },
-        error: e,
-    }
-}
-
-fn sent() -> SendNow
-    ensures { λ r. ⌜ ((h : HeaderPut) → at.nextOf r h ≡ next.SendNext.Sent) ⌝ }
-{
-    ended(SentKind::Sent, DriverError::Io)
-}
-
-fn refuse(e: DriverError) -> SendNow
-    ensures { λ r. ⌜ ((h : HeaderPut) → at.nextOf r h ≡ next.SendNext.Refused h e) ⌝ }
-{
-    ended(SentKind::Refused, e)
-}
-
-pub fn is_free(s: &[u8]) -> bool
-    requires { ⌜ isSession (now s) ≡ true ⌝ }
-    ensures { λ r. ⌜ r ≡ free (sessionIn (now (s .entry)) .st) ⌝ }
-{
-    let t = sdpcm_at(s);
-    if t.wlan_flow_control == 0 {
-        t.last_bus_data_credit != t.packet_tx_seq
-    } else {
-        false
-    }
-}
 
 // Lays a packet's header at the front of the work buffer, whose bytes there are kept.
 fn lay_header(undo: &mut [u8], buf: &mut [u8], size: u16, seq: u8, channel: u8)
@@ -176,12 +74,8 @@ fn emit(s: &mut [u8], undo: &mut [u8], buf: &mut [u8], out: OutPacket) -> SendNo
     requires { ⌜ length (now buf) ≡ 2048 ⌝ }
     ensures { λ r. ⌜ ((h : Bool) → at.Emits (now (undo .entry)) (now (undo .exit)) (now (s .entry)) (now (s .exit)) (now (buf .entry)) (now (buf .exit)) r h (to.emitStep (sessionIn (now (s .entry)) .st) h out)) ⌝ }
 {
-    let size = out.size;
     emit_header(s, undo, buf, out);
-    if 2040 < size {
-        return refuse(DriverError::InvalidArg);
-    }
-    waits(SendKind::Ready, 0, 999, (size + 3) / 4 * 4)
+    emitted(out)
 }
 
 pub fn send_start(s: &mut [u8], undo: &mut [u8], buf: &mut [u8], out: OutPacket) -> SendNow
@@ -207,14 +101,6 @@ fn test(s: &mut [u8], undo: &mut [u8], buf: &mut [u8], out: OutPacket, t0: u64) 
         return emit(s, undo, buf, out);
     }
     waits(SendKind::Late, t0, 0, 0)
-}
-
-// A stall polls, from the beginning.
-fn polling(s: &[u8], t0: u64) -> SendNow
-    requires { ⌜ isSession (now s) ≡ true ⌝ }
-    ensures { λ r. ⌜ to.pollingStep (sessionIn (now (s .entry)) .st) t0 ≡ at.stays (sessionIn (now (s .entry)) .st) r ⌝ }
-{
-    asks(SendKind::Polling, poll_from(s), t0, 0, 0)
 }
 
 // A stall's poll brought an event of a declared length.
@@ -285,27 +171,6 @@ fn stall_poll(
     stall_next(s, undo, buf, out, t0, r)
 }
 
-fn stall_late(t0: u64, t: u64) -> SendNow
-    ensures { λ r. ⌜ ((s : State) → to.lateStep s t0 t ≡ at.stays s r) ⌝ }
-{
-    if 1_000_000 < elapsed_us(t0, t) {
-        return refuse(DriverError::Timeout);
-    }
-    waits(SendKind::Waited, t0, 0, 0)
-}
-
-fn ready_read(left: u16, n: u16, v: u32) -> SendNow
-    ensures { λ r. ⌜ ((s : State) → to.readyStep s left n v ≡ at.stays s r) ⌝ }
-{
-    if f2_ready(v) {
-        return waits(SendKind::Writing, 0, 0, n);
-    }
-    if left == 0 {
-        return refuse(DriverError::Timeout);
-    }
-    waits(SendKind::Ready, 0, left - 1, n)
-}
-
 // The value of an answer to the operation at p.
 pub fn send_answer(
     s: &mut [u8],
@@ -318,7 +183,7 @@ pub fn send_answer(
     requires { ⌜ isSession (now s) ≡ true ⌝ }
     requires { ⌜ Kept (now undo) ⌝ }
     requires { ⌜ length (now buf) ≡ 2048 ⌝ }
-    ensures { λ r. ⌜ at.Sends (now (undo .entry)) (now (undo .exit)) (now (s .entry)) (now (s .exit)) (now (buf .entry)) (now (buf .exit)) r (arrivalAt (to.sendOp (at.pointOf p)) (now (buf .entry)) (sessionIn (now (s .entry)) .st .sdpcm) .event) (to.sendAnswer (sessionIn (now (s .entry)) .st) out (at.pointOf p) (BusAnswer.Value v) (arrivalAt (to.sendOp (at.pointOf p)) (now (buf .entry)) (sessionIn (now (s .entry)) .st .sdpcm))) ⌝ }
+    ensures { λ r. ⌜ at.Sends (now (undo .entry)) (now (undo .exit)) (now (s .entry)) (now (s .exit)) (now (buf .entry)) (now (buf .exit)) r (arrivalAt (to.sendOp (pointOf p)) (now (buf .entry)) (sessionIn (now (s .entry)) .st .sdpcm) .event) (to.sendAnswer (sessionIn (now (s .entry)) .st) out (pointOf p) (BusAnswer.Value v) (arrivalAt (to.sendOp (pointOf p)) (now (buf .entry)) (sessionIn (now (s .entry)) .st .sdpcm))) ⌝ }
 {
     let k = p.kind;
     let q = p.at;

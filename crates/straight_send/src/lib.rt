@@ -8,7 +8,7 @@ use sdpcm::header::next_seq;
 use sdpcm::header::put_data;
 use sdpcm::header::put_header;
 use sdpcm::status::f2_ready;
-use sending::is_free;
+use send_points::is_free;
 use wlan::BusOp;
 ghost use mathlib.Core.Path.{_≡_};
 ghost use mathlib.Core.Bool.{true, false};

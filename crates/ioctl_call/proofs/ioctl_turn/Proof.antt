@@ -3,7 +3,7 @@ use Prim.Native.Nat.{ℕ, _%_}
 use native.Mathlib.Omega.{arith}
 use Rattle.wlan.specs.declared.DriverError.{DriverError}
 use Rattle.ioctl.specs.declared.IoctlNext.{IoctlNext}
-use Rattle.replying.specs.Replying.{pointOf}
+use Rattle.reply_points.specs.ReplyPoints.{pointOf}
 use Rattle.replying.proofs.Laws.{fault-replies}
 use Rattle.turning.proofs.Laws.{asked-grew, not-back}
 use Rattle.ioctl_call.proofs.Laws.{back-comes, fault-comes, value-comes}
@@ -16,7 +16,7 @@ use Rattle.ioctl_call.proofs.answered.Reads as answered-reads
 use Rattle.ioctl_call.proofs.asks.ioctl_ask.Reads as ioctl-ask-reads
 use Rattle.ioctl_call.proofs.ioctl_turned.Reads as ioctl-turned-reads
 use Rattle.replying.proofs.ioctl_answer.Reads as ioctl-answer-reads
-use Rattle.replying.proofs.ioctl_fault.Reads as ioctl-fault-reads
+use Rattle.reply_points.proofs.ioctl_fault.Reads as ioctl-fault-reads
 use Rattle.turning.proofs.is_back.Reads as is-back-reads
 
 ioctl-ask-requires : tie.Need-ioctl-ask-requires

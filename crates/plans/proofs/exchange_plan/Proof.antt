@@ -1,5 +1,5 @@
 use mathlib.Core.Path.{sym, _∙_}
-use Rattle.replying.specs.Replying.{nextOf}
+use Rattle.reply_points.specs.ReplyPoints.{nextOf}
 use Rattle.plans.specs.Plans.{beforeIn}
 use Rattle.plans.proofs.Laws.{next-on, next-off}
 use borrow.Author.Needs.{needs}

@@ -4,7 +4,7 @@ use Rattle.send.specs.Meaning.{laidHeader}
 use Rattle.control.specs.declared.Before.{Before}
 use Rattle.control.specs.Meaning.{laidBefore}
 use Rattle.laying.specs.Laying.{copied}
-use Rattle.replying.specs.Replying as reply
+use Rattle.reply_points.specs.ReplyPoints as reply
 use Rattle.plans.specs.Plans.{goesOn, beforeIn}
 use Rattle.plans.proofs.Laws.{same-kept}
 use borrow.Author.Needs.{needs}

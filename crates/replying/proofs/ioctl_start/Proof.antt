@@ -2,10 +2,6 @@ use Rattle.replying.proofs.Laws.{numbered}
 use borrow.Author.Needs.{needs}
 use Rattle.replying.proofs.ioctl_start.Statement.{statement}
 use Rattle.replying.proofs.ioctl_start.Tie as tie
-use Rattle.replying.proofs.ioctl_start.Reads as reads
-use Rattle.replying.proofs.ioctl_start.Lts as lts
-use Rattle.replying.proofs.number.Reads as number-reads
-use Rattle.replying.proofs.sending_start.Reads as sending-start-reads
 
 number-requires : tie.Need-number-requires
 number-requires c κs = search needs

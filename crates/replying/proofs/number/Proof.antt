@@ -1,11 +1,6 @@
 use borrow.Author.Needs.{needs}
 use Rattle.replying.proofs.number.Statement.{statement}
 use Rattle.replying.proofs.number.Tie as tie
-use Rattle.replying.proofs.number.Reads as reads
-use Rattle.replying.proofs.number.Lts as lts
-use Rattle.places_read.proofs.sdpcm_at.Reads as sdpcm-at-reads
-use Rattle.places.proofs.write.put_sdpcm.Reads as put-sdpcm-reads
-use Rattle.sdpcm.proofs.header.next_id.Reads as next-id-reads
 
 sdpcm-at-requires : tie.Need-sdpcm-at-requires
 sdpcm-at-requires c κs = search needs

@@ -9,18 +9,11 @@ use Rattle.device.specs.Meaning.{Tells}
 use Rattle.send.specs.declared.HeaderPut.{HeaderPut}
 use Rattle.ioctl.specs.Ioctl.{replyNext, packetStep}
 use Rattle.poll_points.specs.PollPoints.{nextBy}
-use Rattle.replying.specs.Replying.{pointBy}
+use Rattle.reply_points.specs.ReplyPoints.{pointBy}
 use Rattle.replying.proofs.Laws.{still, unlaid, heard}
 use borrow.Author.Needs.{needs}
 use Rattle.replying.proofs.reply_next.Statement.{statement}
 use Rattle.replying.proofs.reply_next.Tie as tie
-use Rattle.replying.proofs.reply_next.Reads as reads
-use Rattle.replying.proofs.reply_next.Lts as lts
-use Rattle.arriving.proofs.handle_async_event.Reads as handle-async-event-reads
-use Rattle.replying.proofs.asks.Reads as asks-reads
-use Rattle.replying.proofs.finish.Reads as finish-reads
-use Rattle.replying.proofs.refuse.Reads as refuse-reads
-use Rattle.replying.proofs.waits.Reads as waits-reads
 
 enum-told : tie.Need-enum-told
 enum-told c = search needs

@@ -11,10 +11,6 @@ use Rattle.replying.proofs.Laws.{moved}
 use borrow.Author.Needs.{needs}
 use Rattle.replying.proofs.reply_poll.Statement.{statement}
 use Rattle.replying.proofs.reply_poll.Tie as tie
-use Rattle.replying.proofs.reply_poll.Reads as reads
-use Rattle.replying.proofs.reply_poll.Lts as lts
-use Rattle.receive.proofs.poll_device.Reads as poll-device-reads
-use Rattle.replying.proofs.reply_next.Reads as reply-next-reads
 
 poll-device-requires : tie.Need-poll-device-requires
 poll-device-requires c κs = search needs

@@ -1,16 +1,11 @@
 use mathlib.Core.Path.{refl}
 use Rattle.ioctl.specs.Ioctl as to
-use Rattle.sending.specs.Sending as send
-use Rattle.replying.specs.Replying.{headerIn}
+use Rattle.send_points.specs.SendPoints as send
+use Rattle.reply_points.specs.ReplyPoints.{headerIn}
 use Rattle.replying.proofs.Laws.{follows}
 use borrow.Author.Needs.{needs}
 use Rattle.replying.proofs.sending_next.Statement.{statement}
 use Rattle.replying.proofs.sending_next.Tie as tie
-use Rattle.replying.proofs.sending_next.Reads as reads
-use Rattle.replying.proofs.sending_next.Lts as lts
-use Rattle.replying.proofs.refuse.Reads as refuse-reads
-use Rattle.replying.proofs.sends.Reads as sends-reads
-use Rattle.replying.proofs.sent.Reads as sent-reads
 
 enum-told : tie.Need-enum-told
 enum-told c = search needs

@@ -2,17 +2,12 @@ use mathlib.Core.Path.{sym, _∙_}
 use Rattle.send.specs.declared.HeaderPut.{HeaderPut}
 use Rattle.send.specs.Send.{startStep}
 use Rattle.ioctl.specs.Ioctl.{sendingStep, sendingNext}
-use Rattle.sending.specs.Sending as send
-use Rattle.replying.specs.Replying.{pointBy}
+use Rattle.send_points.specs.SendPoints as send
+use Rattle.reply_points.specs.ReplyPoints.{pointBy}
 use Rattle.replying.proofs.Laws.{unemitted}
 use borrow.Author.Needs.{needs}
 use Rattle.replying.proofs.sending_start.Statement.{statement}
 use Rattle.replying.proofs.sending_start.Tie as tie
-use Rattle.replying.proofs.sending_start.Reads as reads
-use Rattle.replying.proofs.sending_start.Lts as lts
-use Rattle.replying.proofs.emit.Reads as emit-reads
-use Rattle.replying.proofs.waits.Reads as waits-reads
-use Rattle.sending.proofs.is_free.Reads as is-free-reads
 
 is-free-requires : tie.Need-is-free-requires
 is-free-requires c κs = search needs

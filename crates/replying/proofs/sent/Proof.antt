@@ -1,17 +1,11 @@
 use Rattle.wlan.specs.declared.State.{State}
 use Rattle.send.specs.declared.HeaderPut.{HeaderPut}
 use Rattle.ioctl.specs.Ioctl as to
-use Rattle.replying.specs.Replying.{pointBy}
+use Rattle.reply_points.specs.ReplyPoints.{pointBy}
 use Rattle.replying.proofs.Laws.{still, follows-moved}
 use borrow.Author.Needs.{needs}
 use Rattle.replying.proofs.sent.Statement.{statement}
 use Rattle.replying.proofs.sent.Tie as tie
-use Rattle.replying.proofs.sent.Reads as reads
-use Rattle.replying.proofs.sent.Lts as lts
-use Rattle.places_read.proofs.reply_at.Reads as reply-at-reads
-use Rattle.places.proofs.write.put_reply.Reads as put-reply-reads
-use Rattle.replying.proofs.finish_stored.Reads as finish-stored-reads
-use Rattle.replying.proofs.waits.Reads as waits-reads
 
 reply-at-requires : tie.Need-reply-at-requires
 reply-at-requires c κs = search needs

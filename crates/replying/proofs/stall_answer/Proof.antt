@@ -2,11 +2,6 @@ use Rattle.replying.proofs.Laws.{after-send}
 use borrow.Author.Needs.{needs}
 use Rattle.replying.proofs.stall_answer.Statement.{statement}
 use Rattle.replying.proofs.stall_answer.Tie as tie
-use Rattle.replying.proofs.stall_answer.Reads as reads
-use Rattle.replying.proofs.stall_answer.Lts as lts
-use Rattle.ioctl.proofs.out_of.Reads as out-of-reads
-use Rattle.replying.proofs.sending_next.Reads as sending-next-reads
-use Rattle.sending.proofs.send_answer.Reads as send-answer-reads
 
 out-of-requires : tie.Need-out-of-requires
 out-of-requires c κs = search needs

@@ -6,7 +6,7 @@ use Rattle.send.specs.Send.{sendOp}
 use Rattle.control.specs.declared.CallPoint.{CallPoint}
 use Rattle.control.specs.Steps.{callOp}
 use Rattle.control.specs.Meaning.{callTree, Kc, secretAt}
-use Rattle.sending.specs.Sending.{pointOf}
+use Rattle.send_points.specs.SendPoints.{pointOf}
 use Rattle.turning.specs.Turning as turning
 use Rattle.turning.proofs.Laws as law
 use Rattle.send_call.specs.SendCall as to

@@ -1,6 +1,6 @@
 use Rattle.send.specs.declared.HeaderPut.{HeaderPut}
 use Rattle.send.specs.Send.{sendAnswer, sendOp, stallAnswer, stallOp, atFirst, atLate, atReady, atWriting}
-use Rattle.sending.specs.Sending.{pointBy}
+use Rattle.send_points.specs.SendPoints.{pointBy}
 use Rattle.sending.proofs.Laws.{still, unheard}
 use borrow.Author.Needs.{needs}
 use Rattle.sending.proofs.send_answer.Statement.{statement}

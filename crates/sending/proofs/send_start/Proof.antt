@@ -2,7 +2,7 @@ use mathlib.Core.Path.{sym, _∙_}
 use mathlib.Core.Bool.{false}
 use Rattle.send.specs.declared.HeaderPut.{HeaderPut}
 use Rattle.send.specs.Send.{startStep}
-use Rattle.sending.specs.Sending.{pointBy}
+use Rattle.send_points.specs.SendPoints.{pointBy}
 use Rattle.sending.proofs.Laws.{still, unheard}
 use borrow.Author.Needs.{needs}
 use Rattle.sending.proofs.send_start.Statement.{statement}

@@ -9,7 +9,7 @@ use Rattle.wlan.specs.declared.State.{State}
 use Rattle.send.specs.declared.HeaderPut.{HeaderPut}
 use Rattle.send.specs.Send.{stallNext, packetStep, pollingStep}
 use Rattle.poll_points.specs.PollPoints.{nextBy}
-use Rattle.sending.specs.Sending.{pointBy}
+use Rattle.send_points.specs.SendPoints.{pointBy}
 use Rattle.sending.proofs.Laws.{still, unheard, moved}
 use borrow.Author.Needs.{needs}
 use Rattle.sending.proofs.stall_next.Statement.{statement}

@@ -1,7 +1,7 @@
 use mathlib.Core.Path.{sym, _∙_}
 use Rattle.send.specs.declared.HeaderPut.{HeaderPut}
 use Rattle.send.specs.Send.{testStep}
-use Rattle.sending.specs.Sending.{pointBy}
+use Rattle.send_points.specs.SendPoints.{pointBy}
 use Rattle.sending.proofs.Laws.{still}
 use borrow.Author.Needs.{needs}
 use Rattle.sending.proofs.test.Statement.{statement}

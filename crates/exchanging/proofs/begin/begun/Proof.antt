@@ -1,6 +1,6 @@
 use mathlib.Core.Path.{refl}
 use Rattle.control.specs.Exchange.{begunBy}
-use Rattle.replying.specs.Replying as reply
+use Rattle.reply_points.specs.ReplyPoints as reply
 use Rattle.exchanging.proofs.Laws.{still}
 use borrow.Author.Needs.{needs}
 use Rattle.exchanging.proofs.begin.begun.Statement.{statement}
