@@ -116,10 +116,6 @@ module _ (b : List ℕ) (h : isSession b ≡ true) where
   unfolding linkBytes linkIn tickIn
   tick-kept w a f = ap (λ (l : Link). l .«disconnect_started_tick») link-kept
 
-  pub link-put : {d : List ℕ} (x : Link) (l : List ℕ) → l ≡ linkBytes x → linkIn l ≡ x → d ≡ over b 21 l → to.Holds d (to.linkPut b x)
-  unfolding sessionBytes stateBytes frontBytes pendingBytes linkBytes listBytes over
-  link-put x l el bl e = holds (withLink s x) (rw el at (over-form 21 _ e)) (law.state-back (withLink s x) pending-kept (rw (← el) bl))
-
   pub wifi-put : {d : List ℕ} (x : WifiState) → d ≡ over b 21 (stateNumber x ∷ []) → to.Holds d (to.wifiPut b x)
   unfolding sessionBytes stateBytes frontBytes pendingBytes linkBytes listBytes over
   wifi-put x e = holds (withLink s (setLinkState (s .link) x)) (over-form 21 _ e) (law.state-back (withLink s (setLinkState (s .link) x)) pending-kept (link-back (setLinkState (s .link) x) (failure-kept _ _ _) (tick-kept _ _ _)))
@@ -140,3 +136,8 @@ module _ (b : List ℕ) (h : isSession b ≡ true) where
   tick-put x t et i e =
       holds (withLink s (setTick (s .link) x)) (rw (← et) (over-form 32 _ e))
       (law.state-back (withLink s (setTick (s .link) x)) pending-kept (link-back (setTick (s .link) x) (failure-kept _ _ _) (rw (← et, law.tick-in-is _ _ _ t i, et, law.tick-back x))))
+
+-- the connection's parts are laid one after the other
+pub link-put : (b : List ℕ) {c d e f : List ℕ} (x : Link) → to.Holds c (to.wifiPut b (x .state)) → to.Holds d (to.authPut c (x .«current_auth»)) → to.Holds e (to.failurePut d (x .«connect_failure»))
+    → to.Holds f (to.tickPut e (x .«disconnect_started_tick»)) → to.Holds f (to.linkPut b x)
+link-put b x h k m n = record { known = n .known; back = rw (m .back, k .back, h .back) at (n .back) }

@@ -1,7 +1,6 @@
 // A part laid over its bytes; all others stay.
 use connect_failure::failure_parts;
 use session_bytes::list::put_whole;
-use state_bytes::link::link_bytes;
 use state_bytes::numbers::auth_number;
 use state_bytes::numbers::bit;
 use state_bytes::numbers::state_number;
@@ -136,6 +135,12 @@ pub fn put_link(s: &mut [u8], x: Link)
     requires { ⌜ isSession (now s) ≡ true ⌝ }
     ensures { λ _. ⌜ to.Holds (now (s .exit)) (to.linkPut (now (s .entry)) x) ⌝ }
 {
-    let b = link_bytes(x);
-    put_whole(s, 21, &b);
+    let state = x.state;
+    let auth = x.current_auth;
+    let failure = x.connect_failure;
+    let tick = x.disconnect_started_tick;
+    put_wifi(s, state);
+    put_auth(s, auth);
+    put_failure(s, failure);
+    put_tick(s, tick);
 }

@@ -184,13 +184,6 @@ pub tick-in-is : (w a : ℕ) (f : FailureParts) (t : TickParts) → t .tick < 18
 unfolding tickIn
 tick-in-is w a f t h = rw (le64-back (t .tick) h)
 
-pub link-is : (l : Link) (w a : ℕ) (f : FailureParts) (t : TickParts) → w ≡ stateNumber (l .state) → a ≡ authNumber (l .«current_auth») → f ≡ failureParts (l .«connect_failure») → t ≡ tickParts (l .«disconnect_started_tick»)
-    → f .status < 4294967296 → f .reason < 4294967296 → t .tick < 18446744073709551616
-    → (linkRaw w a f t ≡ linkBytes l) × (linkIn (linkRaw w a f t) ≡ l)
-unfolding linkBytes linkIn
-link-is l w a f t ew ea ef et h k m =
-    (rw (ew, ea, ef, et), rw (failure-in-is w a f t h k, tick-in-is w a f t m, ew, ea, ef, et, wifi-back, auth-back, failure-back, tick-back))
-
 -- ---- the state
 
 take-front : (s : State) → take 7 (stateBytes s) ≡ frontBytes (s .sdpcm) (s .scan)

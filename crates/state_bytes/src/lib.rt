@@ -1,4 +1,3 @@
 // The state as bytes that a caller keeps between calls: what they mean, and what its parts are as numbers.
-pub mod link;
 pub mod numbers;
 pub mod parts;
