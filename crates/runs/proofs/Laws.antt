@@ -8,6 +8,7 @@ use lib.ListN.{length, drop}
 use borrow.Author.Tests.{lt-leb}
 use Rattle.wlan.specs.declared.DriverError.{DriverError}
 use Rattle.wlan.specs.declared.Outcome.{Outcome}
+use Rattle.wlan.specs.declared.Refusal.{Refusal}
 use Rattle.wlan.specs.declared.State.{State}
 use Rattle.wlan.specs.declared.Success.{Success}
 use Rattle.wlan.specs.Outcome.{errorValue}
@@ -69,7 +70,7 @@ send-called i frame s rec log b hi hl h =
 
 -- ---- arguments that are refused
 
-pub refused-runs : (c : Call) (s rec log u : List ℕ) (b : Bytes) (r : RunEnd) → isSession s ≡ true → Kept u → length b ≡ 2048 → ((w : World) → call c w ≡ stop DriverError.InvalidArg w) → r ≡ ending.endBy (ending.error DriverError.InvalidArg) 0 → to.Runs c rec log log u u s s b b r
+pub refused-runs : (c : Call) (s rec log u : List ℕ) (b : Bytes) (r : RunEnd) → isSession s ≡ true → Kept u → length b ≡ 2048 → ((w : World) → call c w ≡ stop DriverError.InvalidArg w) → r ≡ ending.endBy (Outcome.Refused (Refusal.Driver DriverError.InvalidArg)) 0 → to.Runs c rec log log u u s s b b r
 unfolding callTree laidBefore laidRequest laidHeader laidAll listHeard listAt
 refused-runs c s rec log u b r k kept h d er =
     let w = turning.worldIn s b in
@@ -111,6 +112,6 @@ module _ (a : Args) (e : World) (s : State) (ws log b : List ℕ) (buf : Bytes) 
   unfolding callTree laidBefore laidRequest laidHeader laidAll listHeard listAt successOf
   done-ends r hs er = rw (hs, er) (returned e _ ws log b buf 0 refl tt)
 
-  pub refused-ends : (r : RunEnd) (x : DriverError) → s ≡ sessionIn b .st → errorValue x < 256 → r ≡ ending.endBy (ending.error x) 0 → turning.Ends e (go e ws log 0 (callShown a (refuses s false Before.None x) (eventOf [] 0) (turning.worldIn b buf))) r log b buf
+  pub refused-ends : (r : RunEnd) (x : DriverError) → s ≡ sessionIn b .st → errorValue x < 256 → r ≡ ending.endBy (Outcome.Refused (Refusal.Driver x)) 0 → turning.Ends e (go e ws log 0 (callShown a (refuses s false Before.None x) (eventOf [] 0) (turning.worldIn b buf))) r log b buf
   unfolding callTree laidBefore laidRequest laidHeader laidAll listHeard listAt
   refused-ends r x hs f er = rw (hs, er) (stopped e x ws log b buf 0 f)
