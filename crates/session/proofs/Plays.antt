@@ -10,6 +10,7 @@ use Rattle.slices.specs.Pick.{pick}
 use Rattle.slices.specs.Le.{le32At}
 use Rattle.slices.proofs.Over.{over-nil}
 use Rattle.wlan.specs.declared.DriverError.{DriverError}
+use Rattle.wlan.specs.declared.Refusal.{Refusal}
 use Rattle.wlan.specs.declared.Outcome.{Outcome}
 use Rattle.definition.specs.Bus.{Bytes, logOf}
 use Rattle.definition.specs.Prog.{World}
@@ -18,7 +19,7 @@ use Rattle.definition.specs.Run.{End, called, finished, shown}
 use Rattle.definition.specs.Player.{Arguments, callWith, badArguments, argumentsOf, emptyLog, playedCall, lineOf, one, nextCall, playFrom}
 use Rattle.session_bytes.specs.Session.{isSession}
 use Rattle.run_end.specs.declared.RunEnd.{RunEnd}
-use Rattle.run_end.specs.RunEnd.{endBy, error}
+use Rattle.run_end.specs.RunEnd.{endBy}
 use Rattle.turning.specs.Turning.{worldIn}
 use Rattle.runs.specs.Runs.{Left, Ran}
 use Rattle.taking.specs.Taking.{Leaves}
@@ -65,10 +66,10 @@ took n w rec log out ex ek eo h =
     as-call (Call.getRxBuf (length out)) w rec log out (rw l ex) h
 
 -- nothing is changed
-pub refused : {r : RunEnd} {x : Arguments} (rec log b : List ℕ) (buf out : Bytes) → x ≡ badArguments → isSession b ≡ true → r ≡ endBy (error DriverError.InvalidArg) 0 → Plays x rec log log b b buf buf out out r
+pub refused : {r : RunEnd} {x : Arguments} (rec log b : List ℕ) (buf out : Bytes) → x ≡ badArguments → isSession b ≡ true → r ≡ endBy (Outcome.Refused (Refusal.Driver DriverError.InvalidArg)) 0 → Plays x rec log log b b buf buf out out r
 unfolding playedCall
 refused rec log b buf out ex h er =
-    rw (ex, er, ← ended (error DriverError.InvalidArg) (worldIn b buf) log out)
+    rw (ex, er, ← ended (Outcome.Refused (Refusal.Driver DriverError.InvalidArg)) (worldIn b buf) log out)
     (record { tells = record { kind = refl; value = refl; failure = refl; fits = omega arith }; len = refl; log = refl; output = refl; held = h; stands = refl })
 
 -- the state, the list and the buffer that are handed on
