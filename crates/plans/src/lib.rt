@@ -58,9 +58,8 @@ pub enum PlanKind {
     Pause,
     Clock,
     Tick,
-    // join: the key is laid before a wait, the passphrase is too long, an SSID that is too long
+    // join: the key is laid before a wait, an SSID that is too long
     LayKey,
-    LongPassphrase,
     LongSsid,
     // the end: of scan, of leave, with no value, with the job's ending
     Scan,
@@ -155,40 +154,36 @@ fn sae_plan(a: WifiAuth) -> Plan
     ensures { λ r. ⌜ ((j : job.Job) (l : Lens) (s : State) (h : Bool) (before : Before) → j .auth ≡ a → to.saeStep j l s h before ≡ at.planned r j l s h before) ⌝ }
 {
     if sae(a) {
-        pauses(PauseKind::BeforeSae)
-    } else {
-        begins(Stage::Infra)
+        return pauses(PauseKind::BeforeSae);
     }
+    begins(Stage::Infra)
 }
 
 fn key_plan(a: WifiAuth) -> Plan
     ensures { λ r. ⌜ ((j : job.Job) (l : Lens) (s : State) (h : Bool) (before : Before) → j .auth ≡ a → to.keyStep j l s h before ≡ at.planned r j l s h before) ⌝ }
 {
     if pmk(a) {
-        only(PlanKind::LayKey)
-    } else {
-        sae_plan(a)
+        return only(PlanKind::LayKey);
     }
+    sae_plan(a)
 }
 
 fn length_plan(long: bool) -> Plan
     ensures { λ r. ⌜ ((j : job.Job) (l : Lens) (s : State) (h : Bool) (before : Before) → j .«long_passphrase» ≡ long → to.lengthStep j l s h before ≡ at.planned r j l s h before) ⌝ }
 {
     if long {
-        only(PlanKind::LongPassphrase)
-    } else {
-        begins(Stage::Wsec)
+        return refuses(PlanKind::Refuse, DriverError::InvalidArg);
     }
+    begins(Stage::Wsec)
 }
 
 fn ssid_plan(long: bool) -> Plan
     ensures { λ r. ⌜ ((j : job.Job) (l : Lens) (s : State) (h : Bool) (before : Before) → j .«long_ssid» ≡ long → to.ssidStep j l s h before ≡ at.planned r j l s h before) ⌝ }
 {
     if long {
-        only(PlanKind::LongSsid)
-    } else {
-        begin_at(BeginKind::Joined, Stage::Ssid)
+        return only(PlanKind::LongSsid);
     }
+    begin_at(BeginKind::Joined, Stage::Ssid)
 }
 
 // The stage that follows at once, where one does.
@@ -218,19 +213,19 @@ pub fn plan_of(j: Job, g: Stage) -> Plan
 {
     let a = j.auth;
     match g {
-        Stage::Country => pauses(PauseKind::AfterCountry),
-        Stage::RxFactor => only(PlanKind::Clock),
-        Stage::EventMessages => pauses(PauseKind::AfterEventMessages),
-        Stage::InitUp => pauses(PauseKind::AfterUp),
-        Stage::JoinBaWsize => length_plan(j.long_passphrase),
-        Stage::SupWpaTmo => key_plan(a),
-        Stage::Key => sae_plan(a),
-        Stage::WpaAuth => ssid_plan(j.long_ssid),
-        Stage::Ssid => only(PlanKind::Done),
-        Stage::Escan => only(PlanKind::Scan),
-        Stage::Disassoc => only(PlanKind::Tick),
-        Stage::Single => only(PlanKind::Give),
-        _ => begins(next_stage(g)),
+        Stage::Country => return pauses(PauseKind::AfterCountry),
+        Stage::RxFactor => return only(PlanKind::Clock),
+        Stage::EventMessages => return pauses(PauseKind::AfterEventMessages),
+        Stage::InitUp => return pauses(PauseKind::AfterUp),
+        Stage::JoinBaWsize => return length_plan(j.long_passphrase),
+        Stage::SupWpaTmo => return key_plan(a),
+        Stage::Key => return sae_plan(a),
+        Stage::WpaAuth => return ssid_plan(j.long_ssid),
+        Stage::Ssid => return only(PlanKind::Done),
+        Stage::Escan => return only(PlanKind::Scan),
+        Stage::Disassoc => return only(PlanKind::Tick),
+        Stage::Single => return only(PlanKind::Give),
+        _ => return begins(next_stage(g)),
     }
 }
 
@@ -239,12 +234,12 @@ pub fn resume_of(p: PauseKind) -> Plan
     ensures { λ r. ⌜ ((ns : ℕ) (j : job.Job) (l : Lens) (s : State) → to.pauseAnswer j l s (at.pauseBy p ns) ≡ at.planned r j l s false Before.None) ⌝ }
 {
     match p {
-        PauseKind::AfterCountry => begins(Stage::AntDiv),
-        PauseKind::Settle => begins(Stage::EventMessages),
-        PauseKind::AfterEventMessages => begins(Stage::InitUp),
-        PauseKind::AfterUp => only(PlanKind::Done),
-        PauseKind::BeforeKey => begin_at(BeginKind::Numbered, Stage::Key),
-        PauseKind::BeforeSae => begins(Stage::Sae),
+        PauseKind::AfterCountry => return begins(Stage::AntDiv),
+        PauseKind::Settle => return begins(Stage::EventMessages),
+        PauseKind::AfterEventMessages => return begins(Stage::InitUp),
+        PauseKind::AfterUp => return only(PlanKind::Done),
+        PauseKind::BeforeKey => return begin_at(BeginKind::Numbered, Stage::Key),
+        PauseKind::BeforeSae => return begins(Stage::Sae),
     }
 }
 
@@ -287,13 +282,11 @@ fn stop_plan(g: Stage, e: DriverError) -> Plan
 {
     if is_dev_error(e) {
         if is_last(g) {
-            refuses(PlanKind::RefuseDown, e)
-        } else {
-            refuses(PlanKind::Refuse, e)
+            return refuses(PlanKind::RefuseDown, e);
         }
-    } else {
-        refuses(PlanKind::Refuse, e)
+        return refuses(PlanKind::Refuse, e);
     }
+    refuses(PlanKind::Refuse, e)
 }
 
 fn is_ignored(g: Stage, e: DriverError) -> bool
@@ -332,5 +325,8 @@ pub fn exchange_plan(j: Job, g: Stage, undo: &mut [u8], buf: &mut [u8], n: Ioctl
 {
     let e = n.error;
     let on = goes_on(undo, buf, n, g);
-    if on { plan_of(j, g) } else { stop_plan(g, e) }
+    if on {
+        return plan_of(j, g);
+    }
+    stop_plan(g, e)
 }

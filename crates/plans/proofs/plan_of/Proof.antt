@@ -53,11 +53,19 @@ enum-told c = search needs
 pauses-requires : tie.Need-pauses-requires
 pauses-requires c κs = search needs
 
+returns : tie.Need-returns
+unfolding afterStep pauseBy
+returns c = λ l s h before. rw (c .before .enum-told .given .1) (c .pauses .ensures (c .before .before .before .args .j) l s h before)
+
 enum-told-2 : tie.Need-enum-told-2
 enum-told-2 c = search needs
 
 only-requires : tie.Need-only-requires
 only-requires c κs = search needs
+
+returns-2 : tie.Need-returns-2
+unfolding afterStep planBy
+returns-2 c = λ l s h before. rw (c .before .enum-told2 .given .1, c .only .ensures)
 
 enum-told-3 : tie.Need-enum-told-3
 enum-told-3 c = search needs
@@ -65,11 +73,19 @@ enum-told-3 c = search needs
 pauses-requires-2 : tie.Need-pauses-requires-2
 pauses-requires-2 c κs = search needs
 
+returns-3 : tie.Need-returns-3
+unfolding afterStep pauseBy
+returns-3 c = λ l s h before. rw (c .before .enum-told3 .given .1) (c .pauses2 .ensures (c .before .before .before .args .j) l s h before)
+
 enum-told-4 : tie.Need-enum-told-4
 enum-told-4 c = search needs
 
 pauses-requires-3 : tie.Need-pauses-requires-3
 pauses-requires-3 c κs = search needs
+
+returns-4 : tie.Need-returns-4
+unfolding afterStep pauseBy
+returns-4 c = λ l s h before. rw (c .before .enum-told4 .given .1) (c .pauses3 .ensures (c .before .before .before .args .j) l s h before)
 
 enum-told-5 : tie.Need-enum-told-5
 enum-told-5 c = search needs
@@ -77,11 +93,19 @@ enum-told-5 c = search needs
 length-plan-requires : tie.Need-length-plan-requires
 length-plan-requires c κs = search needs
 
+returns-5 : tie.Need-returns-5
+unfolding afterStep pauseBy
+returns-5 c = λ l s h before. rw (c .before .enum-told5 .given .1) (c .length-plan .ensures (c .before .before .before .args .j) l s h before refl)
+
 enum-told-6 : tie.Need-enum-told-6
 enum-told-6 c = search needs
 
 key-plan-requires : tie.Need-key-plan-requires
 key-plan-requires c κs = search needs
+
+returns-6 : tie.Need-returns-6
+unfolding afterStep pauseBy
+returns-6 c = λ l s h before. rw (c .before .enum-told6 .given .1) (c .key-plan .ensures (c .before .before .before .args .j) l s h before refl)
 
 enum-told-7 : tie.Need-enum-told-7
 enum-told-7 c = search needs
@@ -89,11 +113,19 @@ enum-told-7 c = search needs
 sae-plan-requires : tie.Need-sae-plan-requires
 sae-plan-requires c κs = search needs
 
+returns-7 : tie.Need-returns-7
+unfolding afterStep pauseBy
+returns-7 c = λ l s h before. rw (c .before .enum-told7 .given .1) (c .sae-plan .ensures (c .before .before .before .args .j) l s h before refl)
+
 enum-told-8 : tie.Need-enum-told-8
 enum-told-8 c = search needs
 
 ssid-plan-requires : tie.Need-ssid-plan-requires
 ssid-plan-requires c κs = search needs
+
+returns-8 : tie.Need-returns-8
+unfolding afterStep pauseBy
+returns-8 c = λ l s h before. rw (c .before .enum-told8 .given .1) (c .ssid-plan .ensures (c .before .before .before .args .j) l s h before refl)
 
 enum-told-9 : tie.Need-enum-told-9
 enum-told-9 c = search needs
@@ -101,11 +133,19 @@ enum-told-9 c = search needs
 only-requires-2 : tie.Need-only-requires-2
 only-requires-2 c κs = search needs
 
+returns-9 : tie.Need-returns-9
+unfolding afterStep planBy
+returns-9 c = λ l s h before. rw (c .before .enum-told9 .given .1, c .only2 .ensures)
+
 enum-told-10 : tie.Need-enum-told-10
 enum-told-10 c = search needs
 
 only-requires-3 : tie.Need-only-requires-3
 only-requires-3 c κs = search needs
+
+returns-10 : tie.Need-returns-10
+unfolding afterStep planBy
+returns-10 c = λ l s h before. rw (c .before .enum-told10 .given .1, c .only3 .ensures)
 
 enum-told-11 : tie.Need-enum-told-11
 enum-told-11 c = search needs
@@ -113,65 +153,25 @@ enum-told-11 c = search needs
 only-requires-4 : tie.Need-only-requires-4
 only-requires-4 c κs = search needs
 
+returns-11 : tie.Need-returns-11
+unfolding afterStep planBy
+returns-11 c = λ l s h before. rw (c .before .enum-told11 .given .1, c .only4 .ensures)
+
 enum-told-12 : tie.Need-enum-told-12
 enum-told-12 c = search needs
 
 only-requires-5 : tie.Need-only-requires-5
 only-requires-5 c κs = search needs
 
+returns-12 : tie.Need-returns-12
+unfolding afterStep planBy
+returns-12 c = λ l s h before. rw (c .before .enum-told12 .given .1, c .only5 .ensures)
+
 next-stage-requires : tie.Need-next-stage-requires
 next-stage-requires c κs = search needs
 
 begins-requires : tie.Need-begins-requires
 begins-requires c κs = search needs
-
-returns : tie.Need-returns
-unfolding afterStep pauseBy
-returns c = λ l s h before. rw (c .before .enum-told .given .1) (c .pauses .ensures (c .before .before .before .args .j) l s h before)
-
-returns-2 : tie.Need-returns-2
-unfolding afterStep planBy
-returns-2 c = λ l s h before. rw (c .before .enum-told2 .given .1, c .only .ensures)
-
-returns-3 : tie.Need-returns-3
-unfolding afterStep pauseBy
-returns-3 c = λ l s h before. rw (c .before .enum-told3 .given .1) (c .pauses2 .ensures (c .before .before .before .args .j) l s h before)
-
-returns-4 : tie.Need-returns-4
-unfolding afterStep pauseBy
-returns-4 c = λ l s h before. rw (c .before .enum-told4 .given .1) (c .pauses3 .ensures (c .before .before .before .args .j) l s h before)
-
-returns-5 : tie.Need-returns-5
-unfolding afterStep pauseBy
-returns-5 c = λ l s h before. rw (c .before .enum-told5 .given .1) (c .length-plan .ensures (c .before .before .before .args .j) l s h before refl)
-
-returns-6 : tie.Need-returns-6
-unfolding afterStep pauseBy
-returns-6 c = λ l s h before. rw (c .before .enum-told6 .given .1) (c .key-plan .ensures (c .before .before .before .args .j) l s h before refl)
-
-returns-7 : tie.Need-returns-7
-unfolding afterStep pauseBy
-returns-7 c = λ l s h before. rw (c .before .enum-told7 .given .1) (c .sae-plan .ensures (c .before .before .before .args .j) l s h before refl)
-
-returns-8 : tie.Need-returns-8
-unfolding afterStep pauseBy
-returns-8 c = λ l s h before. rw (c .before .enum-told8 .given .1) (c .ssid-plan .ensures (c .before .before .before .args .j) l s h before refl)
-
-returns-9 : tie.Need-returns-9
-unfolding afterStep planBy
-returns-9 c = λ l s h before. rw (c .before .enum-told9 .given .1, c .only2 .ensures)
-
-returns-10 : tie.Need-returns-10
-unfolding afterStep planBy
-returns-10 c = λ l s h before. rw (c .before .enum-told10 .given .1, c .only3 .ensures)
-
-returns-11 : tie.Need-returns-11
-unfolding afterStep planBy
-returns-11 c = λ l s h before. rw (c .before .enum-told11 .given .1, c .only4 .ensures)
-
-returns-12 : tie.Need-returns-12
-unfolding afterStep planBy
-returns-12 c = λ l s h before. rw (c .before .enum-told12 .given .1, c .only5 .ensures)
 
 returns-13 : tie.Need-returns-13
 returns-13 c = λ l s h before. rw (on (c .before .before .before .args .j) l s h before (c .before .before .before .args .g) (c .before .before .match .keys13), ← c .before .next-stage .ensures) (c .begins .ensures (c .before .before .before .args .j) l s h before)
@@ -182,40 +182,40 @@ plan-of-spec =
     (tie.spec
     enum-told
     pauses-requires
+    returns
     enum-told-2
     only-requires
+    returns-2
     enum-told-3
     pauses-requires-2
+    returns-3
     enum-told-4
     pauses-requires-3
+    returns-4
     enum-told-5
     length-plan-requires
+    returns-5
     enum-told-6
     key-plan-requires
+    returns-6
     enum-told-7
     sae-plan-requires
+    returns-7
     enum-told-8
     ssid-plan-requires
+    returns-8
     enum-told-9
     only-requires-2
+    returns-9
     enum-told-10
     only-requires-3
+    returns-10
     enum-told-11
     only-requires-4
+    returns-11
     enum-told-12
     only-requires-5
+    returns-12
     next-stage-requires
     begins-requires
-    returns
-    returns-2
-    returns-3
-    returns-4
-    returns-5
-    returns-6
-    returns-7
-    returns-8
-    returns-9
-    returns-10
-    returns-11
-    returns-12
     returns-13)
