@@ -13,46 +13,76 @@ use requests::security::supplicant;
 use requests::security::wpa_auth;
 use requests::security::wsec;
 
-fn set_word(cmd: u32, value: u32) -> Request
-    ensures { λ r. ⌜ r ≡ to.setting cmd value ⌝ }
-{
-    Request::SetWord {
-        cmd: cmd,
-        value: value,
-        interface: 0,
-    }
-}
-
 pub fn request_at(j: Job, s: Stage) -> Request
     ensures { λ r. ⌜ r ≡ to.requestAt j s ⌝ }
 {
-    let a = j.auth;
-    let single = j.request;
     match s {
-        Stage::Country => Request::Country(j.country),
-        Stage::AntDiv => set_word(64, 0),
-        Stage::Txglom => Request::Iovar(IovarName::BusTxglom, 0),
-        Stage::Apsta => Request::Iovar(IovarName::Apsta, 1),
-        Stage::BaWsize => Request::Iovar(IovarName::AmpduBaWsize, 8),
-        Stage::Mpdu => Request::Iovar(IovarName::AmpduMpdu, 4),
-        Stage::RxFactor => Request::Iovar(IovarName::AmpduRxFactor, 0),
-        Stage::EventMessages => Request::EventMessages,
-        Stage::InitUp => Request::Up,
-        Stage::JoinBaWsize => Request::Iovar(IovarName::AmpduBaWsize, 8),
-        Stage::Wsec => set_word(134, wsec(a)),
-        Stage::SupWpa => Request::IovarPair(IovarName::SupWpa, 0, supplicant(a)),
-        Stage::Eapver => Request::IovarPair(IovarName::SupWpa2Eapver, 0, 0xffff_ffff),
-        Stage::SupWpaTmo => Request::IovarPair(IovarName::SupWpaTmo, 0, 5000),
-        Stage::Key => Request::Key,
-        Stage::Sae => Request::SaePassword,
-        Stage::Infra => set_word(20, 1),
-        Stage::Auth => set_word(22, auth_type(a)),
-        Stage::Mfp => Request::Iovar(IovarName::Mfp, mfp(a)),
-        Stage::WpaAuth => set_word(165, wpa_auth(a)),
-        Stage::Ssid => Request::Ssid,
-        Stage::Escan => Request::Escan,
-        Stage::Disassoc => set_word(52, 0),
-        Stage::Single => single,
+        Stage::Country => return Request::Country(j.country),
+        Stage::AntDiv => return Request::SetWord {
+            cmd: 64,
+            value: 0,
+            interface: 0,
+        },
+        Stage::Txglom => return Request::Iovar(IovarName::BusTxglom, 0),
+        Stage::Apsta => return Request::Iovar(IovarName::Apsta, 1),
+        Stage::BaWsize => return Request::Iovar(IovarName::AmpduBaWsize, 8),
+        Stage::Mpdu => return Request::Iovar(IovarName::AmpduMpdu, 4),
+        Stage::RxFactor => return Request::Iovar(IovarName::AmpduRxFactor, 0),
+        Stage::EventMessages => return Request::EventMessages,
+        Stage::InitUp => return Request::Up,
+        Stage::JoinBaWsize => return Request::Iovar(IovarName::AmpduBaWsize, 8),
+        Stage::Wsec => {
+            let a = j.auth;
+            return Request::SetWord {
+                cmd: 134,
+                value: wsec(a),
+                interface: 0,
+            };
+        }
+        Stage::SupWpa => {
+            let a = j.auth;
+            return Request::IovarPair(IovarName::SupWpa, 0, supplicant(a));
+        }
+        Stage::Eapver => return Request::IovarPair(IovarName::SupWpa2Eapver, 0, 0xffff_ffff),
+        Stage::SupWpaTmo => return Request::IovarPair(IovarName::SupWpaTmo, 0, 5000),
+        Stage::Key => return Request::Key,
+        Stage::Sae => return Request::SaePassword,
+        Stage::Infra => return Request::SetWord {
+            cmd: 20,
+            value: 1,
+            interface: 0,
+        },
+        Stage::Auth => {
+            let a = j.auth;
+            return Request::SetWord {
+                cmd: 22,
+                value: auth_type(a),
+                interface: 0,
+            };
+        }
+        Stage::Mfp => {
+            let a = j.auth;
+            return Request::Iovar(IovarName::Mfp, mfp(a));
+        }
+        Stage::WpaAuth => {
+            let a = j.auth;
+            return Request::SetWord {
+                cmd: 165,
+                value: wpa_auth(a),
+                interface: 0,
+            };
+        }
+        Stage::Ssid => return Request::Ssid,
+        Stage::Escan => return Request::Escan,
+        Stage::Disassoc => return Request::SetWord {
+            cmd: 52,
+            value: 0,
+            interface: 0,
+        },
+        Stage::Single => {
+            let single = j.request;
+            return single;
+        }
     }
 }
 
