@@ -7,7 +7,7 @@ ghost use Prim.Native.Nat.{_-_, _≤_, min};
 ghost use lib.ListN.{take, drop, replicate};
 ghost use Rattle.definition.specs.Event.{eventBytes, scanResult, eventOf};
 
-fn smaller(a: usize, b: usize) -> usize
+pub fn smaller(a: usize, b: usize) -> usize
     ensures { λ r. ⌜ r ≡ min a b ⌝ }
 {
     if a < b { a } else { b }
@@ -45,7 +45,7 @@ fn bssid_in(e: [u8; 140]) -> [u8; 6]
 }
 
 // An SSID is at most 32 bytes long.
-fn ssid_length(n: u8) -> u8
+pub fn ssid_length(n: u8) -> u8
     ensures { λ r. ⌜ r ≡ min n 32 ⌝ }
 {
     if n < 32 { n } else { 32 }

@@ -1,5 +1,6 @@
 // A scan result in an event's 140 bytes: compared with the records, and laid as one, where it lies.
 use crate::put_count;
+use events::event::ssid_length;
 use session_bytes::list::put_whole;
 use slices::fill_zero;
 use slices::fitting;
@@ -8,7 +9,7 @@ use words::quad;
 ghost use mathlib.Core.Path.{_≡_};
 ghost use mathlib.Core.Bool.{true};
 ghost use mathlib.Core.List.{[], _∷_, _++_};
-ghost use Prim.Native.Nat.{_+_, _-_, _≤_, _<_, min};
+ghost use Prim.Native.Nat.{_+_, _-_, _≤_, _<_};
 ghost use lib.ListN.{length, take, drop, getD, replicate};
 ghost use Rattle.slices.specs.Over.{over};
 ghost use Rattle.slices.specs.Le.{le16, le32};
@@ -65,13 +66,6 @@ pub fn knows_result(s: &[u8], n: usize, e: &[u8]) -> bool
         i += 1;
     }
     false
-}
-
-// An SSID is at most 32 bytes long.
-fn ssid_length(n: u8) -> u8
-    ensures { λ r. ⌜ r ≡ min n 32 ⌝ }
-{
-    if n < 32 { n } else { 32 }
 }
 
 // The n bytes of the SSID, and zeros.
