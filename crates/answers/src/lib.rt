@@ -25,7 +25,7 @@ pub enum Recorded {
     Value(u32, u64),
 }
 
-fn long(x: u32) -> u64
+pub fn long(x: u32) -> u64
     ensures { λ r. ⌜ (r ≡ x) × (r < 4294967296) ⌝ }
 {
     x as u64

@@ -2,7 +2,9 @@
 use Prim.Native.Nat.{ℕ, _+_, _-_, _<_, _≤_}
 use mathlib.Core.Path.{_≡_, refl, ap, _∙_}
 use mathlib.Core.Bool.{Bool, true, false}
-use mathlib.Core.List.{List}
+use mathlib.Core.List.{List, [], _∷_}
+use types.Run.{OneOf, miss}
+use denote.Enum.Declared.{tagOf}
 use native.Mathlib.Omega.{arith}
 use lib.ListN.{length, drop}
 use Rattle.slices.specs.Pick.{pick}
@@ -37,7 +39,10 @@ use Rattle.asking.specs.declared.Asked.{Asked}
 use Rattle.asking.specs.Asking.{Asks, followed}
 use Rattle.reply_points.specs.declared.IoctlNow.{IoctlNow}
 use Rattle.reply_points.specs.ReplyPoints as reply
+use Rattle.exchanging.specs.declared.now.CallKind.{CallKind}
 use Rattle.exchanging.specs.declared.now.CallNow.{CallNow}
+use Rattle.exchanging.proofs.now.CallKind.{the-type}
+use Rattle.plans.specs.declared.PauseKind.{PauseKind}
 use Rattle.plans.specs.declared.Plan.{Plan}
 use Rattle.plans.specs.Plans as plan
 use Rattle.exchanging.specs.Exchanging as at
@@ -127,27 +132,52 @@ module _ (x : Args) (m : Modest x) (q : CallPoint) {rec log₀ log : List ℕ} {
   unfolding callTree
   back-turns end o w h = over-turns x e _ rec log b buf r o w (law.asked-back (callOp q) a k e (secretAt x q) (λ y. Kc x q y (turning.worldIn b buf)) b end h)
 
-  pub value-turns : turning.isBack (a .back) ≡ false → a .fault ≡ false → (f : Plan) → Onward f → Follows f (BusAnswer.Value (a .value)) → Ends
+  value-turns : turning.isBack (a .back) ≡ false → a .fault ≡ false → (f : Plan) → Onward f → Follows f (BusAnswer.Value (a .value)) → Ends
   unfolding callTree
   value-turns i l f o h =
       on-turns x e _ rec log b buf r f (a .pos) (a .len) (o .0) (o .1) (o .2) (o .3)
       (law.asked-value (callOp q) a k e (secretAt x q) (λ y. Kc x q y (turning.worldIn b buf)) b (λ (z : End). to.Plans x e z rec f (a .pos) (a .len) log b buf) (law.not-back (a .back) i) l
       (λ y hv j hb. plans x m q y buf buf j hb e rec log (a .pos) (a .len) b (BusAnswer.Value (a .value)) hv f (h _)))
 
-  pub fault-turns : turning.isBack (a .back) ≡ false → a .fault ≡ true → (f : Plan) → Onward f → (a .value < 256 → Follows f (BusAnswer.Fault (a .value))) → Ends
+  fault-turns : turning.isBack (a .back) ≡ false → a .fault ≡ true → (f : Plan) → Onward f → (a .value < 256 → Follows f (BusAnswer.Fault (a .value))) → Ends
   unfolding callTree
   fault-turns i l f o h =
       on-turns x e _ rec log b buf r f (a .pos) (a .len) (o .0) (o .1) (o .2) (o .3)
       (law.asked-faulted (callOp q) a k e (secretAt x q) (λ y. Kc x q y (turning.worldIn b buf)) b (λ (z : End). to.Plans x e z rec f (a .pos) (a .len) log b buf) (law.not-back (a .back) i) l
       (λ y hv n j hb. plans x m q y buf buf j hb e rec log (a .pos) (a .len) b (BusAnswer.Fault (a .value)) hv f (h n _)))
 
-  -- whatever the answer
-  pub any-turns : turning.isBack (a .back) ≡ false → (f : Plan) → Onward f → ((y : BusAnswer) → Follows f y) → Ends
-  any-turns i f o h = by (a .fault) refl
+  pub told-turns : turning.isBack (a .back) ≡ false → (f : Plan) → Onward f → (a .fault ≡ true → a .value < 256 → Follows f (BusAnswer.Fault (a .value))) → (a .fault ≡ false → Follows f (BusAnswer.Value (a .value))) → Ends
+  told-turns i f o hf hv = by (a .fault) refl
     where
       by : (l : Bool) → a .fault ≡ l → Ends
-      by true l = fault-turns i l f o (λ n. h _)
-      by false l = value-turns i l f o (h _)
+      by true l = fault-turns i l f o (hf l)
+      by false l = value-turns i l f o (hv l)
+
+-- ---- the clock, the tick and the waits
+
+abbrev keys-waits : List ℕ
+keys-waits = 0 ∷ 1 ∷ 4 ∷ 5 ∷ []
+
+pub waits : (p : PauseKind) (ns : ℕ) (k : CallKind) → OneOf keys-waits (tagOf the-type k) → to.pointBy k p ns ≡ CallPoint.Pause (plan.pauseBy p ns)
+unfolding to.pointBy
+waits p ns CallKind.Exchange h = refl
+waits p ns CallKind.Pause h = refl
+waits p ns CallKind.Clock h = absurd (miss keys-waits 2 tt h)
+waits p ns CallKind.Tick h = absurd (miss keys-waits 3 tt h)
+waits p ns CallKind.Ended h = refl
+waits p ns CallKind.Refused h = refl
+
+abbrev keys-asks : List ℕ
+keys-asks = 1 ∷ 2 ∷ 3 ∷ []
+
+pub asks : (n : CallNow) (k : CallKind) → OneOf keys-asks (tagOf the-type k) → at.nextBy k n ≡ CallNext.Ask (to.pointBy k (n .pause) (n .ns))
+unfolding to.pointBy at.nextBy
+asks n CallKind.Exchange h = absurd (miss keys-asks 0 tt h)
+asks n CallKind.Pause h = refl
+asks n CallKind.Clock h = refl
+asks n CallKind.Tick h = refl
+asks n CallKind.Ended h = absurd (miss keys-asks 4 tt h)
+asks n CallKind.Refused h = absurd (miss keys-asks 5 tt h)
 
 -- ---- the loop of a call
 

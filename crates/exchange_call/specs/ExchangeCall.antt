@@ -12,11 +12,14 @@ use Rattle.definition.specs.Prog.{World, world}
 use Rattle.definition.specs.Run.{End}
 use Rattle.handling.specs.Handle.{listHeard}
 use Rattle.control.specs.declared.Before.{Before}
+use Rattle.control.specs.declared.CallPoint.{CallPoint}
 use Rattle.control.specs.Meaning.{Args, lensOf, laidBefore, callShown}
 use Rattle.session_bytes.specs.Session.{sessionIn}
 use Rattle.going.specs.Onward.{go}
+use Rattle.plans.specs.declared.PauseKind.{PauseKind}
 use Rattle.plans.specs.declared.Plan.{Plan}
-use Rattle.plans.specs.Plans.{planned}
+use Rattle.plans.specs.Plans.{planned, pauseBy}
+use Rattle.exchanging.specs.declared.now.CallKind.{CallKind}
 use Rattle.turning.specs.Turning.{Ends}
 use Rattle.exchange_call.specs.declared.CallTurned.{CallTurned}
 
@@ -38,3 +41,12 @@ TurnsBy a e x rec r log b buf false = Ends e x (r .end) log b buf
 -- the run goes on to x, or came to it
 abbrev pub Turns : Args → World → End → List ℕ → CallTurned → List ℕ → List ℕ → Bytes → Type 0
 Turns a e x rec r log b buf = TurnsBy a e x rec r log b buf (r .on)
+
+-- the clock, the tick, or else a wait
+unfoldable pub pointBy : CallKind → PauseKind → ℕ → CallPoint
+pointBy CallKind.Exchange p ns = CallPoint.Pause (pauseBy p ns)
+pointBy CallKind.Pause p ns = CallPoint.Pause (pauseBy p ns)
+pointBy CallKind.Clock p ns = CallPoint.Clock
+pointBy CallKind.Tick p ns = CallPoint.Tick
+pointBy CallKind.Ended p ns = CallPoint.Pause (pauseBy p ns)
+pointBy CallKind.Refused p ns = CallPoint.Pause (pauseBy p ns)

@@ -1,4 +1,5 @@
 // A call's exchanges over its recording, on a session's bytes: the loop over the exchanges.
+use asking::Asked;
 use asking::ask_clock;
 use asking::ask_tick;
 use asking::ask_wait;
@@ -33,19 +34,25 @@ ghost use mathlib.Core.Bool.{true, false};
 ghost use mathlib.Core.List.{List, []};
 ghost use Prim.Native.Nat.{ℕ, _+_, _<_, _≤_};
 ghost use lib.ListN.{length, drop};
+ghost use Rattle.wlan.specs.declared.BusAnswer as answer;
 ghost use Rattle.wlan.specs.declared.Outcome.{Outcome};
+ghost use Rattle.wlan.specs.declared.State.{State};
 ghost use Rattle.definition.specs.Bus.{Bytes};
 ghost use Rattle.definition.specs.Event.{eventOf};
 ghost use Rattle.definition.specs.Prog.{World};
 ghost use Rattle.definition.specs.Run.{End};
+ghost use Rattle.device.specs.declared.Arrival.{Arrival};
+ghost use Rattle.control.specs.declared.Before.{Before};
 ghost use Rattle.control.specs.declared.CallNext as next;
-ghost use Rattle.control.specs.declared.CallPoint as point;
-ghost use Rattle.control.specs.Steps.{pauseNs};
+ghost use Rattle.control.specs.declared.Job as job;
+ghost use Rattle.control.specs.declared.Lens as lens;
+ghost use Rattle.control.specs.Steps.{pauseNs, callOp};
 ghost use Rattle.control.specs.Meaning.{Args, lensOf, callTree, callShown, successOf};
 ghost use Rattle.effects.specs.Args.{argsOf};
-ghost use Rattle.control.specs.Begin.{exchangesStep};
+ghost use Rattle.control.specs.Begin.{exchangesStep, callAnswer};
 ghost use Rattle.session_bytes.specs.Session.{isSession, sessionIn};
 ghost use Rattle.going.specs.Onward.{go};
+ghost use Rattle.asking.specs.Asking.{Asks};
 ghost use Rattle.undo.specs.Undo.{Kept};
 ghost use Rattle.plans.specs.Plans as plans;
 ghost use Rattle.exchanging.specs.Exchanging as at;
@@ -136,46 +143,65 @@ fn pause_ns(p: PauseKind, ns: u32) -> u32
     }
 }
 
-// A wait.
-fn pause_turn(p: PauseKind, ns: u32, pos: usize, len: usize, log: &mut [u32]) -> CallTurned
-    ensures on { λ r. ⌜ ((a : Args) (e : World) (rec b : List ℕ) (buf : Bytes) → length (a .first) + length (a .second) < 60000 → to.Turns a e (go e (drop pos rec) (now (log .entry)) len (callTree a (next.CallNext.Ask (point.CallPoint.Pause (plans.pauseBy p ns))) (turning.worldIn b buf))) rec r (now (log .exit)) b buf) ⌝ }
-    ensures grew { λ r. ⌜ (r .on ≡ true → (len < r .end .len) × (r .end .len ≤ length (now (log .entry)))) ⌝ }
+// Asks for init's clock, leave's tick, or else a wait.
+fn ask_at(
+    k: CallKind,
+    p: PauseKind,
+    ns: u32,
+    pos: usize,
+    len: usize,
+    rec: &[u32],
+    log: &mut [u32],
+) -> Asked
+    ensures { λ r. ⌜ ((b : Bytes) → Asks (callOp (to.pointBy k p ns)) (now (rec .entry)) (now (log .entry)) (now (log .exit)) pos len b b r) ⌝ }
 {
-    let a = ask_wait(pause_ns(p, ns), pos, len, log);
-    if is_back(a) {
-        return over(back_end(a));
+    match k {
+        CallKind::Clock => ask_clock(pos, len, rec, log),
+        CallKind::Tick => ask_tick(pos, len, rec, log),
+        _ => ask_wait(pause_ns(p, ns), pos, len, log),
     }
-    onward(resume_of(p), a.pos, a.len)
 }
 
-// init's clock.
-fn clock_turn(pos: usize, len: usize, rec: &[u32], log: &mut [u32]) -> CallTurned
-    ensures on { λ r. ⌜ ((a : Args) (e : World) (b : List ℕ) (buf : Bytes) → length (a .first) + length (a .second) < 60000 → to.Turns a e (go e (drop pos (now (rec .entry))) (now (log .entry)) len (callTree a (next.CallNext.Ask point.CallPoint.Clock) (turning.worldIn b buf))) (now (rec .entry)) r (now (log .exit)) b buf) ⌝ }
-    ensures grew { λ r. ⌜ (r .on ≡ true → (len < r .end .len) × (r .end .len ≤ length (now (log .entry)))) ⌝ }
+// What follows the clock, the tick or a wait.
+fn answer_plan(k: CallKind, p: PauseKind, fault: bool, v: u64) -> Plan
+    ensures faulted { λ r. ⌜ (fault ≡ true → v < 256 → (ns : ℕ) (j : job.Job) (l : lens.Lens) (s : State) (z : Arrival) → callAnswer j l s (to.pointBy k p ns) (answer.BusAnswer.Fault v) z ≡ plans.planned r j l s false Before.None) ⌝ }
+    ensures told { λ r. ⌜ (fault ≡ false → (ns : ℕ) (j : job.Job) (l : lens.Lens) (s : State) (z : Arrival) → callAnswer j l s (to.pointBy k p ns) (answer.BusAnswer.Value v) z ≡ plans.planned r j l s false Before.None) ⌝ }
 {
-    let a = ask_clock(pos, len, rec, log);
-    if is_back(a) {
-        return over(back_end(a));
+    match k {
+        CallKind::Clock => {
+            if fault {
+                return fault_plan((v % 256) as u8);
+            }
+            return clock_plan(v);
+        }
+        CallKind::Tick => {
+            if fault {
+                return fault_plan((v % 256) as u8);
+            }
+            return tick_plan(v);
+        }
+        _ => return resume_of(p),
     }
-    if a.fault {
-        return onward(fault_plan((a.value % 256) as u8), a.pos, a.len);
-    }
-    onward(clock_plan(a.value), a.pos, a.len)
 }
 
-// leave's tick.
-fn tick_turn(pos: usize, len: usize, rec: &[u32], log: &mut [u32]) -> CallTurned
-    ensures on { λ r. ⌜ ((a : Args) (e : World) (b : List ℕ) (buf : Bytes) → length (a .first) + length (a .second) < 60000 → to.Turns a e (go e (drop pos (now (rec .entry))) (now (log .entry)) len (callTree a (next.CallNext.Ask point.CallPoint.Tick) (turning.worldIn b buf))) (now (rec .entry)) r (now (log .exit)) b buf) ⌝ }
+// The clock, the tick or a wait, and what follows it.
+fn wait_turn(
+    k: CallKind,
+    p: PauseKind,
+    ns: u32,
+    pos: usize,
+    len: usize,
+    rec: &[u32],
+    log: &mut [u32],
+) -> CallTurned
+    ensures on { λ r. ⌜ ((a : Args) (e : World) (b : List ℕ) (buf : Bytes) → length (a .first) + length (a .second) < 60000 → to.Turns a e (go e (drop pos (now (rec .entry))) (now (log .entry)) len (callTree a (next.CallNext.Ask (to.pointBy k p ns)) (turning.worldIn b buf))) (now (rec .entry)) r (now (log .exit)) b buf) ⌝ }
     ensures grew { λ r. ⌜ (r .on ≡ true → (len < r .end .len) × (r .end .len ≤ length (now (log .entry)))) ⌝ }
 {
-    let a = ask_tick(pos, len, rec, log);
+    let a = ask_at(k, p, ns, pos, len, rec, log);
     if is_back(a) {
         return over(back_end(a));
     }
-    if a.fault {
-        return onward(fault_plan((a.value % 256) as u8), a.pos, a.len);
-    }
-    onward(tick_plan(a.value), a.pos, a.len)
+    onward(answer_plan(k, p, a.fault, a.value), a.pos, a.len)
 }
 
 // From where a call stands to its next plan.
@@ -201,18 +227,24 @@ fn stand(
     ensures grew { λ r. ⌜ (r .on ≡ true → (len < r .end .len) × (r .end .len ≤ length (now (log .entry)))) ⌝ }
 {
     let k = n.kind;
-    let g = n.stage;
-    let p = n.at;
-    let pause = n.pause;
-    let e = n.ending;
-    let x = n.error;
     match k {
-        CallKind::Exchange => exchange_turn(j, l, g, p, pos, len, s, undo, rec, log, buf),
-        CallKind::Pause => pause_turn(pause, n.ns, pos, len, log),
-        CallKind::Clock => clock_turn(pos, len, rec, log),
-        CallKind::Tick => tick_turn(pos, len, rec, log),
-        CallKind::Ended => over(ending_end(e, buf, len)),
-        CallKind::Refused => over(error_end(x, len)),
+        CallKind::Exchange => {
+            let g = n.stage;
+            let p = n.at;
+            exchange_turn(j, l, g, p, pos, len, s, undo, rec, log, buf)
+        }
+        CallKind::Ended => {
+            let e = n.ending;
+            over(ending_end(e, buf, len))
+        }
+        CallKind::Refused => {
+            let x = n.error;
+            over(error_end(x, len))
+        }
+        _ => {
+            let pause = n.pause;
+            wait_turn(k, pause, n.ns, pos, len, rec, log)
+        }
     }
 }
 

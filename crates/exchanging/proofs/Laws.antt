@@ -3,7 +3,9 @@
 use Prim.Native.Nat.{ℕ}
 use mathlib.Core.Path.{_≡_, refl, ap, _∙_}
 use mathlib.Core.Bool.{Bool, true}
-use mathlib.Core.List.{List}
+use mathlib.Core.List.{List, [], _∷_}
+use types.Run.{OneOf, miss}
+use denote.Enum.Declared.{tagOf}
 use Rattle.wlan.specs.declared.ScanMarks.{ScanMarks}
 use Rattle.wlan.specs.declared.State.{State}
 use Rattle.wlan.specs.State.{withScan}
@@ -15,7 +17,9 @@ use Rattle.ioctl.specs.declared.IoctlStep.{IoctlStep}
 use Rattle.control.specs.declared.Before.{Before}
 use Rattle.control.specs.declared.CallNext.{CallNext}
 use Rattle.control.specs.declared.CallStep.{CallStep}
+use Rattle.control.specs.declared.Job.{Job}
 use Rattle.control.specs.declared.Lay.{Lay}
+use Rattle.control.specs.declared.Lens.{Lens}
 use Rattle.control.specs.declared.RequestPut.{RequestPut}
 use Rattle.control.specs.declared.Stage.{Stage}
 use Rattle.control.specs.Steps.{lays, layBefore, step}
@@ -33,8 +37,12 @@ use Rattle.laying.specs.Laying.{LaidKept}
 use Rattle.reply_points.specs.declared.IoctlNow.{IoctlNow}
 use Rattle.reply_points.specs.ReplyPoints as reply
 use Rattle.replying.specs.Replying.{Starts}
+use Rattle.plans.specs.declared.Plan.{Plan}
+use Rattle.plans.specs.declared.PlanKind.{PlanKind}
+use Rattle.plans.specs.Plans.{planBy}
+use Rattle.plans.proofs.PlanKind.{the-type}
 use Rattle.exchanging.specs.declared.now.CallNow.{CallNow}
-use Rattle.exchanging.specs.Exchanging.{nextOf, Sets, Clears, leftBy, Acts}
+use Rattle.exchanging.specs.Exchanging.{nextBy, nextOf, kindOf, Sets, Clears, leftBy, Acts}
 
 -- the state alone changed, so what is kept gives the same
 front-kept : (u b : List ℕ) {d : List ℕ} (t : State) → Kept u → isSession b ≡ true → Holds d (withState b t) → backSession u d ≡ backSession u b
@@ -47,6 +55,27 @@ set k n e = rw e (record { next = n; held = k; heard = refl; clear = refl; lay =
 
 pub still : {b : List ℕ} {r : CallNow} {h : Bool} {lay : Lay} {n : CallNext} {s : CallStep} → isSession b ≡ true → nextOf r ≡ n → s ≡ step (sessionIn b .st) h lay n → Sets b b r h lay s
 still k n e = set (record { known = k; back = refl }) n e
+
+-- a wait, the clock, the tick, the job's ending, a refusal
+abbrev keys-still : List ℕ
+keys-still = 1 ∷ 2 ∷ 3 ∷ 9 ∷ 10 ∷ []
+
+pub plan-still : {b : List ℕ} {r : CallNow} (f : Plan) (j : Job) (l : Lens) (h : Bool) (before : Before) (k : PlanKind) → OneOf keys-still (tagOf the-type k) → isSession b ≡ true
+    → r .kind ≡ kindOf k → r .pause ≡ f .pause → r .ns ≡ f .ns → r .ending ≡ j .ending → r .error ≡ f .error
+    → Sets b b r h (layBefore before) (planBy k f j l (sessionIn b .st) h before)
+unfolding planBy kindOf nextBy
+plan-still f j l h before PlanKind.Begin o hb k p n g e = absurd (miss keys-still 0 tt o)
+plan-still f j l h before PlanKind.Pause o hb k p n g e = still hb (rw (k, p, n)) refl
+plan-still f j l h before PlanKind.Clock o hb k p n g e = still hb (rw k) refl
+plan-still f j l h before PlanKind.Tick o hb k p n g e = still hb (rw k) refl
+plan-still f j l h before PlanKind.LayKey o hb k p n g e = absurd (miss keys-still 4 tt o)
+plan-still f j l h before PlanKind.LongSsid o hb k p n g e = absurd (miss keys-still 5 tt o)
+plan-still f j l h before PlanKind.Scan o hb k p n g e = absurd (miss keys-still 6 tt o)
+plan-still f j l h before PlanKind.Disconnect o hb k p n g e = absurd (miss keys-still 7 tt o)
+plan-still f j l h before PlanKind.Done o hb k p n g e = absurd (miss keys-still 8 tt o)
+plan-still f j l h before PlanKind.Give o hb k p n g e = still hb (rw (k, g)) refl
+plan-still f j l h before PlanKind.Refuse o hb k p n g e = still hb (rw (k, e)) refl
+plan-still f j l h before PlanKind.RefuseDown o hb k p n g e = absurd (miss keys-still 11 tt o)
 
 pub set-moved : {b m d : List ℕ} {t : State} {r : CallNow} {h : Bool} {lay : Lay} (f : State → CallStep) → Holds m (withState b t) → Sets m d r h lay (f (sessionIn m .st)) → Sets b d r h lay (f t)
 set-moved {b} {m} {d} {t} {r} {h} {lay} f k q =

@@ -20,6 +20,7 @@ use Rattle.session_bytes.specs.Session.{sessionIn, withState}
 use Rattle.places.specs.Places.{Holds}
 use Rattle.undo.specs.Undo.{Kept, backSession, backBuf}
 use Rattle.reply_points.specs.ReplyPoints as reply
+use Rattle.plans.specs.declared.PlanKind.{PlanKind}
 use Rattle.plans.specs.Plans.{pauseBy}
 use Rattle.exchanging.specs.declared.now.CallKind.{CallKind}
 use Rattle.exchanging.specs.declared.now.CallNow.{CallNow}
@@ -36,6 +37,21 @@ nextBy CallKind.Refused r = CallNext.Refused (r .error)
 
 abbrev pub nextOf : CallNow → CallNext
 nextOf r = nextBy (r .kind) r
+
+-- where a plan that changes nothing leaves the call
+unfoldable pub kindOf : PlanKind → CallKind
+kindOf PlanKind.Begin = CallKind.Refused
+kindOf PlanKind.Pause = CallKind.Pause
+kindOf PlanKind.Clock = CallKind.Clock
+kindOf PlanKind.Tick = CallKind.Tick
+kindOf PlanKind.LayKey = CallKind.Refused
+kindOf PlanKind.LongSsid = CallKind.Refused
+kindOf PlanKind.Scan = CallKind.Refused
+kindOf PlanKind.Disconnect = CallKind.Refused
+kindOf PlanKind.Done = CallKind.Refused
+kindOf PlanKind.Give = CallKind.Ended
+kindOf PlanKind.Refuse = CallKind.Refused
+kindOf PlanKind.RefuseDown = CallKind.Refused
 
 -- ---- a stage's payload
 

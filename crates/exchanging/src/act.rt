@@ -1,12 +1,12 @@
 // What a call does next is done.
 use crate::begin::begin;
 use crate::begin::connecting;
+use crate::now::CallKind;
 use crate::now::CallNow;
-use crate::now::clock_at;
 use crate::now::end;
+use crate::now::now_at;
 use crate::now::pause_at;
 use crate::now::refuse;
-use crate::now::tick_at;
 use control::Ending;
 use control::Job;
 use control::Lens;
@@ -92,6 +92,19 @@ fn refuse_down(s: &mut [u8], e: DriverError) -> CallNow
     refuse(e)
 }
 
+// Where a plan that changes nothing leaves the call.
+fn kind_of(k: PlanKind) -> CallKind
+    ensures { λ r. ⌜ r ≡ at.kindOf k ⌝ }
+{
+    match k {
+        PlanKind::Pause => CallKind::Pause,
+        PlanKind::Clock => CallKind::Clock,
+        PlanKind::Tick => CallKind::Tick,
+        PlanKind::Give => CallKind::Ended,
+        _ => CallKind::Refused,
+    }
+}
+
 // buf has `before` laid already.
 pub fn act(
     j: Job,
@@ -108,26 +121,30 @@ pub fn act(
     requires { ⌜ length (now buf) ≡ 2048 ⌝ }
     ensures { λ r. ⌜ ((h : Bool) (before : Before) (c₀ : Bytes) → now (buf .entry) ≡ laidBefore before c₀ → at.Acts (argsOf j (now (first .entry)) (now (second .entry))) (now (undo .entry)) (now (undo .exit)) (now (s .entry)) (now (s .exit)) c₀ (now (buf .entry)) (now (buf .exit)) r h (plans.planned f j l (sessionIn (now (s .entry)) .st) h before)) ⌝ }
 {
-    let a = j.auth;
-    let given = j.ending;
     let k = f.kind;
-    let how = f.begin;
-    let g = f.stage;
-    let pause = f.pause;
-    let e = f.error;
     match k {
-        PlanKind::Begin => begin(j, l, how, g, s, undo, buf, first, second),
-        PlanKind::Pause => pause_at(pause, f.ns),
-        PlanKind::Clock => clock_at(),
-        PlanKind::Tick => tick_at(),
+        PlanKind::Begin => {
+            let how = f.begin;
+            let g = f.stage;
+            begin(j, l, how, g, s, undo, buf, first, second)
+        }
         PlanKind::LayKey => lay_key(s, undo, buf, first, second),
-        PlanKind::LongPassphrase => refuse(DriverError::InvalidArg),
-        PlanKind::LongSsid => refuse_join(s, a),
+        PlanKind::LongSsid => {
+            let a = j.auth;
+            refuse_join(s, a)
+        }
         PlanKind::Scan => scanned(s),
         PlanKind::Disconnect => disconnect(s, f.t),
+        PlanKind::RefuseDown => {
+            let e = f.error;
+            refuse_down(s, e)
+        }
         PlanKind::Done => end(Ending::Done),
-        PlanKind::Give => end(given),
-        PlanKind::Refuse => refuse(e),
-        PlanKind::RefuseDown => refuse_down(s, e),
+        _ => {
+            let pause = f.pause;
+            let given = j.ending;
+            let e = f.error;
+            now_at(kind_of(k), pause, f.ns, given, e)
+        }
     }
 }

@@ -93,13 +93,11 @@ fn unbegun(s: &mut [u8], g: Stage, e: DriverError) -> CallNow
     if is_dev_error(e) {
         if is_last(g) {
             put_wifi(s, WifiState::Down);
-            refuse(e)
-        } else {
-            refuse(e)
+            return refuse(e);
         }
-    } else {
-        refuse(e)
+        return refuse(e);
     }
+    refuse(e)
 }
 
 // After the first step of the exchange.
@@ -111,9 +109,9 @@ fn begun(s: &mut [u8], n: IoctlNow, g: Stage) -> CallNow
     let p = n.at;
     let e = n.error;
     match k {
-        IoctlNowKind::Ask => exchange_at(g, p),
-        IoctlNowKind::Done => refuse(DriverError::InvalidArg),
-        IoctlNowKind::Refused => unbegun(s, g, e),
+        IoctlNowKind::Ask => return exchange_at(g, p),
+        IoctlNowKind::Done => return refuse(DriverError::InvalidArg),
+        IoctlNowKind::Refused => return unbegun(s, g, e),
     }
 }
 

@@ -50,7 +50,7 @@ fn nowhere() -> IoctlAt
     }
 }
 
-fn now_at(kind: CallKind, pause: PauseKind, ns: u32, ending: Ending, e: DriverError) -> CallNow
+pub fn now_at(kind: CallKind, pause: PauseKind, ns: u32, ending: Ending, e: DriverError) -> CallNow
     ensures { λ r. ⌜ (r .kind ≡ kind) × (r .pause ≡ pause) × (r .ns ≡ ns) × (r .ending ≡ ending) × (r .error ≡ e) ⌝ }
 {
     CallNow {
@@ -95,30 +95,6 @@ pub fn pause_at(pause: PauseKind, ns: u32) -> CallNow
     ensures { λ r. ⌜ at.nextOf r ≡ next.CallNext.Ask (point.CallPoint.Pause (plans.pauseBy pause ns)) ⌝ }
 {
     now_at(CallKind::Pause, pause, ns, Ending::Done, DriverError::Io)
-}
-
-pub fn clock_at() -> CallNow
-    ensures { λ r. ⌜ at.nextOf r ≡ next.CallNext.Ask point.CallPoint.Clock ⌝ }
-{
-    now_at(
-        CallKind::Clock,
-        PauseKind::AfterUp,
-        0,
-        Ending::Done,
-        DriverError::Io,
-    )
-}
-
-pub fn tick_at() -> CallNow
-    ensures { λ r. ⌜ at.nextOf r ≡ next.CallNext.Ask point.CallPoint.Tick ⌝ }
-{
-    now_at(
-        CallKind::Tick,
-        PauseKind::AfterUp,
-        0,
-        Ending::Done,
-        DriverError::Io,
-    )
 }
 
 pub fn end(e: Ending) -> CallNow

@@ -73,7 +73,6 @@ planBy PlanKind.Pause r j l s h before = pausing s h before (r .pause) (r .ns)
 planBy PlanKind.Clock r j l s h before = asks s h before CallPoint.Clock
 planBy PlanKind.Tick r j l s h before = asks s h before CallPoint.Tick
 planBy PlanKind.LayKey r j l s h before = keyLaid s h before
-planBy PlanKind.LongPassphrase r j l s h before = refuses s h before DriverError.InvalidArg
 planBy PlanKind.LongSsid r j l s h before = refuses (linkedState (to.connectingState j s) WifiState.Down) h before DriverError.InvalidArg
 planBy PlanKind.Scan r j l s h before = to.scanStep s h before
 planBy PlanKind.Disconnect r j l s h before = ends (to.disconnectingState s (r .t)) h before Ending.Done

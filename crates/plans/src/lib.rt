@@ -58,9 +58,8 @@ pub enum PlanKind {
     Pause,
     Clock,
     Tick,
-    // join: the key is laid before a wait, the passphrase is too long, an SSID that is too long
+    // join: the key is laid before a wait, an SSID that is too long
     LayKey,
-    LongPassphrase,
     LongSsid,
     // the end: of scan, of leave, with no value, with the job's ending
     Scan,
@@ -155,40 +154,36 @@ fn sae_plan(a: WifiAuth) -> Plan
     ensures { λ r. ⌜ ((j : job.Job) (l : Lens) (s : State) (h : Bool) (before : Before) → j .auth ≡ a → to.saeStep j l s h before ≡ at.planned r j l s h before) ⌝ }
 {
     if sae(a) {
-        pauses(PauseKind::BeforeSae)
-    } else {
-        begins(Stage::Infra)
+        return pauses(PauseKind::BeforeSae);
     }
+    begins(Stage::Infra)
 }
 
 fn key_plan(a: WifiAuth) -> Plan
     ensures { λ r. ⌜ ((j : job.Job) (l : Lens) (s : State) (h : Bool) (before : Before) → j .auth ≡ a → to.keyStep j l s h before ≡ at.planned r j l s h before) ⌝ }
 {
     if pmk(a) {
-        only(PlanKind::LayKey)
-    } else {
-        sae_plan(a)
+        return only(PlanKind::LayKey);
     }
+    sae_plan(a)
 }
 
 fn length_plan(long: bool) -> Plan
     ensures { λ r. ⌜ ((j : job.Job) (l : Lens) (s : State) (h : Bool) (before : Before) → j .«long_passphrase» ≡ long → to.lengthStep j l s h before ≡ at.planned r j l s h before) ⌝ }
 {
     if long {
-        only(PlanKind::LongPassphrase)
-    } else {
-        begins(Stage::Wsec)
+        return refuses(PlanKind::Refuse, DriverError::InvalidArg);
     }
+    begins(Stage::Wsec)
 }
 
 fn ssid_plan(long: bool) -> Plan
     ensures { λ r. ⌜ ((j : job.Job) (l : Lens) (s : State) (h : Bool) (before : Before) → j .«long_ssid» ≡ long → to.ssidStep j l s h before ≡ at.planned r j l s h before) ⌝ }
 {
     if long {
-        only(PlanKind::LongSsid)
-    } else {
-        begin_at(BeginKind::Joined, Stage::Ssid)
+        return only(PlanKind::LongSsid);
     }
+    begin_at(BeginKind::Joined, Stage::Ssid)
 }
 
 // The stage that follows at once, where one does.
@@ -287,13 +282,11 @@ fn stop_plan(g: Stage, e: DriverError) -> Plan
 {
     if is_dev_error(e) {
         if is_last(g) {
-            refuses(PlanKind::RefuseDown, e)
-        } else {
-            refuses(PlanKind::Refuse, e)
+            return refuses(PlanKind::RefuseDown, e);
         }
-    } else {
-        refuses(PlanKind::Refuse, e)
+        return refuses(PlanKind::Refuse, e);
     }
+    refuses(PlanKind::Refuse, e)
 }
 
 fn is_ignored(g: Stage, e: DriverError) -> bool
@@ -332,5 +325,8 @@ pub fn exchange_plan(j: Job, g: Stage, undo: &mut [u8], buf: &mut [u8], n: Ioctl
 {
     let e = n.error;
     let on = goes_on(undo, buf, n, g);
-    if on { plan_of(j, g) } else { stop_plan(g, e) }
+    if on {
+        return plan_of(j, g);
+    }
+    stop_plan(g, e)
 }

@@ -110,30 +110,27 @@ pub fn acknowledged(v: u16) -> Polled
     ensures { λ r. ⌜ ((s : Sdpcm) → to.step s (at.nextOf r) ≡ to.acknowledged s v) ⌝ }
 {
     if f2_available(v) {
-        ask(PollKind::Status, 999)
-    } else {
-        none()
+        return ask(PollKind::Status, 999);
     }
+    none()
 }
 
 pub fn interrupt_read(v: u16) -> Polled
     ensures { λ r. ⌜ ((s : Sdpcm) → to.step s (at.nextOf r) ≡ to.interruptStep s v) ⌝ }
 {
     if v == 0 {
-        acknowledged(v)
-    } else {
-        ask(PollKind::Acknowledge, v)
+        return acknowledged(v);
     }
+    ask(PollKind::Acknowledge, v)
 }
 
 pub fn waited(left: u16) -> Polled
     ensures { λ r. ⌜ ((s : Sdpcm) → to.step s (at.nextOf r) ≡ to.waited s left) ⌝ }
 {
     if left == 0 {
-        none()
-    } else {
-        ask(PollKind::Status, left - 1)
+        return none();
     }
+    ask(PollKind::Status, left - 1)
 }
 
 // The mark is cleared; no packet.
@@ -151,13 +148,11 @@ fn by_status(s: &mut [u8], v: u32) -> Polled
 {
     if has_packet(v) {
         if unreadable(v) {
-            ask(PollKind::FrameControl, 0)
-        } else {
-            ask(PollKind::Packet, pending(v))
+            return ask(PollKind::FrameControl, 0);
         }
-    } else {
-        unmarked(s)
+        return ask(PollKind::Packet, pending(v));
     }
+    unmarked(s)
 }
 
 pub fn status_read(s: &mut [u8], left: u16, v: u32) -> Polled
@@ -165,8 +160,7 @@ pub fn status_read(s: &mut [u8], left: u16, v: u32) -> Polled
     ensures { λ r. ⌜ at.Polls (now (s .entry)) (now (s .exit)) r (to.readStep (sessionIn (now (s .entry)) .st .sdpcm) left v) ⌝ }
 {
     if v == 0xffff_ffff {
-        ask(PollKind::Waited, left)
-    } else {
-        by_status(s, v)
+        return ask(PollKind::Waited, left);
     }
+    by_status(s, v)
 }

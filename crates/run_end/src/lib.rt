@@ -6,7 +6,6 @@ use wlan::DriverError;
 use wlan::Success;
 use wlan::WlanPollResult;
 ghost use mathlib.Core.Path.{_≡_};
-ghost use Prim.Native.Nat.{_<_};
 ghost use Rattle.wlan.specs.declared.ConnectFailure.{ConnectFailure};
 ghost use Rattle.wlan.specs.declared.DriverError.{DriverError};
 ghost use Rattle.wlan.specs.declared.Outcome.{Outcome};
@@ -82,24 +81,6 @@ pub fn fault_end(place: u64, len: usize) -> RunEnd
     value_end(EndKind::Fault, place, len)
 }
 
-fn wide8(x: u8) -> u64
-    ensures { λ r. ⌜ (r ≡ x) × (r < 256) ⌝ }
-{
-    x as u64
-}
-
-fn wide16(x: u16) -> u64
-    ensures { λ r. ⌜ (r ≡ x) × (r < 65536) ⌝ }
-{
-    x as u64
-}
-
-fn wide32(x: u32) -> u64
-    ensures { λ r. ⌜ (r ≡ x) × (r < 4294967296) ⌝ }
-{
-    x as u64
-}
-
 pub fn error_end(e: DriverError, len: usize) -> RunEnd
     ensures { λ r. ⌜ (r ≡ to.endBy (Outcome.Refused (Refusal.Driver e)) len) × to.Fits (Outcome.Refused (Refusal.Driver e)) ⌝ }
 {
@@ -110,7 +91,7 @@ pub fn error_end(e: DriverError, len: usize) -> RunEnd
         DriverError::Busy => value_end(EndKind::Busy, 0, len),
         DriverError::WouldBlock => value_end(EndKind::WouldBlock, 0, len),
         DriverError::NoMem => value_end(EndKind::NoMem, 0, len),
-        DriverError::Fault(p) => value_end(EndKind::Fault, wide8(p), len),
+        DriverError::Fault(p) => value_end(EndKind::Fault, p as u64, len),
         DriverError::EventHeader => value_end(EndKind::EventHeader, 0, len),
         DriverError::PastBuffer => value_end(EndKind::PastBuffer, 0, len),
     }
@@ -171,9 +152,9 @@ pub fn success_end(x: Success, len: usize) -> RunEnd
     match x {
         Success::Done => done_end(len),
         Success::Polled(p) => polled_end(report_of(p), len),
-        Success::Taken(n) => value_end(EndKind::Taken, wide16(n), len),
+        Success::Taken(n) => value_end(EndKind::Taken, n as u64, len),
         Success::Mac(n) => value_end(EndKind::Mac, n, len),
-        Success::Word(n) => value_end(EndKind::Word, wide32(n), len),
+        Success::Word(n) => value_end(EndKind::Word, n as u64, len),
     }
 }
 

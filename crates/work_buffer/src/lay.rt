@@ -91,7 +91,7 @@ pub fn lay_payload(part: &mut [u8], r: Request, first: &[u8], second: &[u8])
         Request::EventMessages => put_event_messages(part),
         Request::Escan => put_escan(part),
         Request::CurrentAddress => put_address(part),
-        Request::Up => put_zeros(part, 0),
+        Request::Up => {}
         Request::Ssid => put_ssid(part, first),
         Request::Key => put_key(part, second),
         Request::SaePassword => put_sae_password(part, second),

@@ -12,9 +12,6 @@ goes-on-requires c κs = search needs
 plan-of-requires : tie.Need-plan-of-requires
 plan-of-requires c κs = search needs
 
-stop-plan-requires : tie.Need-stop-plan-requires
-stop-plan-requires c κs = search needs
-
 same-length : tie.Need-same-length
 same-length c = search needs
 
@@ -23,6 +20,9 @@ same-length-2 c = search needs
 
 returns : tie.Need-returns
 returns c = (λ l s h x i. next-on (c .before .before .before .before .before .before .before .before .before .before .before .args .j) l (c .before .before .before .before .before .before .before .before .before .before .before .args .g) s h x (c .before .before .before .before .before .before .before .before .before .before .before .args .n) i (sym (c .before .before .before .before .before .before .goes-on .ensures .0) ∙ c .before .if1 .taken) ∙ c .plan-of .ensures l s h (beforeIn (nextOf (c .before .before .before .before .before .before .before .before .before .before .before .args .n) x)), (c .before .before .before .before .before .before .goes-on .ensures .1 .0, c .before .before .before .before .before .before .goes-on .ensures .1 .1))
+
+stop-plan-requires : tie.Need-stop-plan-requires
+stop-plan-requires c κs = search needs
 
 same-length-3 : tie.Need-same-length-3
 same-length-3 c = search needs
@@ -39,10 +39,10 @@ exchange-plan-spec =
     (tie.spec
     goes-on-requires
     plan-of-requires
-    stop-plan-requires
     same-length
     same-length-2
     returns
+    stop-plan-requires
     same-length-3
     same-length-4
     returns-2)

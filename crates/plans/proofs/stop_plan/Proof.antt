@@ -13,19 +13,19 @@ is-last-requires c κs = search needs
 refuses-requires : tie.Need-refuses-requires
 refuses-requires c κs = search needs
 
-refuses-requires-2 : tie.Need-refuses-requires-2
-refuses-requires-2 c κs = search needs
-
-refuses-requires-3 : tie.Need-refuses-requires-3
-refuses-requires-3 c κs = search needs
-
 returns : tie.Need-returns
 unfolding stopStep planBy
 returns c = λ j l s h before. simp (sym (c .before .before .before .before .is-dev-error .ensures) ∙ c .before .before .before .if1 .taken, sym (c .before .before .is-last .ensures) ∙ c .before .if2 .taken, c .refuses .ensures .0, c .refuses .ensures .1)
 
+refuses-requires-2 : tie.Need-refuses-requires-2
+refuses-requires-2 c κs = search needs
+
 returns-2 : tie.Need-returns-2
 unfolding stopStep planBy
 returns-2 c = λ j l s h before. simp (sym (c .before .before .before .before .is-dev-error .ensures) ∙ c .before .before .before .if1 .taken, sym (c .before .before .is-last .ensures) ∙ c .before .if2 .left, c .refuses2 .ensures .0, c .refuses2 .ensures .1)
+
+refuses-requires-3 : tie.Need-refuses-requires-3
+refuses-requires-3 c κs = search needs
 
 returns-3 : tie.Need-returns-3
 unfolding stopStep planBy
@@ -38,8 +38,8 @@ stop-plan-spec =
     is-dev-error-requires
     is-last-requires
     refuses-requires
-    refuses-requires-2
-    refuses-requires-3
     returns
+    refuses-requires-2
     returns-2
+    refuses-requires-3
     returns-3)

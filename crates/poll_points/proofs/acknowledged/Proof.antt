@@ -19,12 +19,12 @@ f2-available-requires c κs = search needs
 ask-requires : tie.Need-ask-requires
 ask-requires c κs = search needs
 
-none-requires : tie.Need-none-requires
-none-requires c κs = search needs
-
 returns : tie.Need-returns
 unfolding acknowledged pointBy
 returns c = λ s. simp (not-true (eqb (bitAnd (c .before .before .before .args .v) 0x20) 0) (sym (c .before .before .f2-available .ensures) ∙ c .before .if1 .taken), c .ask .ensures)
+
+none-requires : tie.Need-none-requires
+none-requires c κs = search needs
 
 returns-2 : tie.Need-returns-2
 unfolding acknowledged
@@ -32,4 +32,4 @@ returns-2 c = λ s. simp (not-false (eqb (bitAnd (c .before .before .before .arg
 
 pub acknowledged-spec : {M : Type 1} → statement M
 acknowledged-spec =
-    tie.close (tie.spec f2-available-requires ask-requires none-requires returns returns-2)
+    tie.close (tie.spec f2-available-requires ask-requires returns none-requires returns-2)

@@ -25,22 +25,22 @@ unreadable-requires c κs = search needs
 ask-requires : tie.Need-ask-requires
 ask-requires c κs = search needs
 
+returns : tie.Need-returns
+unfolding statusStep pointBy
+returns c = still _ (c .before .before .before .before .before .before .pre) (simp (not-true (eqb (bitAnd (c .before .before .before .before .before .before .args .v) 0x100) 0) (sym (c .before .before .before .before .has-packet .ensures) ∙ c .before .before .before .if1 .taken), sym (c .before .before .unreadable .ensures) ∙ c .before .if2 .taken, c .ask .ensures))
+
 pending-requires : tie.Need-pending-requires
 pending-requires c κs = search needs
 
 ask-requires-2 : tie.Need-ask-requires-2
 ask-requires-2 c κs = search needs
 
-unmarked-requires : tie.Need-unmarked-requires
-unmarked-requires c κs = search needs
-
-returns : tie.Need-returns
-unfolding statusStep pointBy
-returns c = still _ (c .before .before .before .before .before .before .pre) (simp (not-true (eqb (bitAnd (c .before .before .before .before .before .before .args .v) 0x100) 0) (sym (c .before .before .before .before .has-packet .ensures) ∙ c .before .before .before .if1 .taken), sym (c .before .before .unreadable .ensures) ∙ c .before .if2 .taken, c .ask .ensures))
-
 returns-2 : tie.Need-returns-2
 unfolding statusStep pointBy
 returns-2 c = still _ (c .before .before .before .before .before .before .before .pre) (simp (not-true (eqb (bitAnd (c .before .before .before .before .before .before .before .args .v) 0x100) 0) (sym (c .before .before .before .before .before .has-packet .ensures) ∙ c .before .before .before .before .if1 .taken), sym (c .before .before .before .unreadable .ensures) ∙ c .before .before .if2 .left, c .ask2 .ensures, c .before .pending .ensures))
+
+unmarked-requires : tie.Need-unmarked-requires
+unmarked-requires c κs = search needs
 
 same-length : tie.Need-same-length
 same-length c = search needs
@@ -56,10 +56,10 @@ by-status-spec =
     has-packet-requires
     unreadable-requires
     ask-requires
+    returns
     pending-requires
     ask-requires-2
-    unmarked-requires
-    returns
     returns-2
+    unmarked-requires
     same-length
     returns-3)

@@ -13,12 +13,12 @@ use Rattle.poll_points.proofs.by_status.Reads as by-status-reads
 ask-requires : tie.Need-ask-requires
 ask-requires c κs = search needs
 
-by-status-requires : tie.Need-by-status-requires
-by-status-requires c κs = search needs
-
 returns : tie.Need-returns
 unfolding readStep pointBy
 returns c = still _ (c .before .before .before .pre) (simp (eq-eqb _ _ (c .before .if1 .taken), c .ask .ensures))
+
+by-status-requires : tie.Need-by-status-requires
+by-status-requires c κs = search needs
 
 same-length : tie.Need-same-length
 same-length c = search needs
@@ -29,4 +29,4 @@ returns-2 c = simp (ne-eqb _ _ (c .before .before .before .before .if1 .left)) (
 
 pub status-read-spec : {M : Type 1} → statement M
 status-read-spec =
-    tie.close (tie.spec ask-requires by-status-requires returns same-length returns-2)
+    tie.close (tie.spec ask-requires returns by-status-requires same-length returns-2)

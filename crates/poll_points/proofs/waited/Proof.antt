@@ -12,19 +12,19 @@ use Rattle.poll_points.proofs.none.Reads as none-reads
 none-requires : tie.Need-none-requires
 none-requires c κs = search needs
 
+returns : tie.Need-returns
+unfolding waited
+returns c = λ s. simp (eq-eqb _ _ (c .before .if1 .taken), c .none .ensures)
+
 sub-ask : tie.Need-sub-ask
 sub-ask c = search needs
 
 ask-requires : tie.Need-ask-requires
 ask-requires c κs = search needs
 
-returns : tie.Need-returns
-unfolding waited
-returns c = λ s. simp (eq-eqb _ _ (c .before .if1 .taken), c .none .ensures)
-
 returns-2 : tie.Need-returns-2
 unfolding waited pointBy
 returns-2 c = λ s. simp (ne-eqb _ _ (c .before .if1 .left), c .ask .ensures)
 
 pub waited-spec : {M : Type 1} → statement M
-waited-spec = tie.close (tie.spec none-requires sub-ask ask-requires returns returns-2)
+waited-spec = tie.close (tie.spec none-requires returns sub-ask ask-requires returns-2)

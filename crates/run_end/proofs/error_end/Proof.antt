@@ -1,4 +1,3 @@
-use mathlib.Core.Path.{refl, sym, _∙_}
 use native.Mathlib.Omega.{arith}
 use borrow.Author.Needs.{needs}
 use Rattle.run_end.proofs.error_end.Statement.{statement}
@@ -43,8 +42,8 @@ value-end-requires-6 c κs = search needs
 enum-known-e : tie.Need-enum-known-e
 enum-known-e c = search needs
 
-wide8-requires : tie.Need-wide8-requires
-wide8-requires c κs = search needs
+cast-value-end : tie.Need-cast-value-end
+cast-value-end c = search needs
 
 value-end-requires-7 : tie.Need-value-end-requires-7
 value-end-requires-7 c κs = search needs
@@ -80,7 +79,7 @@ returns-6 : tie.Need-returns-6
 returns-6 c = rw (c .before .enum-told6 .given .1) (c .value-end6 .ensures, omega arith)
 
 returns-7 : tie.Need-returns-7
-returns-7 c = rw (c .before .before .before .e .given .1, ← c .before .wide8 .ensures .0) (c .value-end7 .ensures, c .before .wide8 .ensures .1)
+returns-7 c = rw (c .before .before .e .given .1) (c .value-end7 .ensures, c .before .known-told .given .0 .1)
 
 returns-8 : tie.Need-returns-8
 returns-8 c = rw (c .before .enum-told7 .given .1) (c .value-end8 .ensures, omega arith)
@@ -105,7 +104,7 @@ error-end-spec =
     enum-told-6
     value-end-requires-6
     enum-known-e
-    wide8-requires
+    cast-value-end
     value-end-requires-7
     enum-told-7
     value-end-requires-8

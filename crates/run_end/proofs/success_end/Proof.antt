@@ -1,4 +1,3 @@
-use mathlib.Core.Path.{refl, sym, _∙_}
 use borrow.Author.Needs.{needs}
 use Rattle.run_end.proofs.success_end.Statement.{statement}
 use Rattle.run_end.proofs.success_end.Tie as tie
@@ -21,8 +20,8 @@ polled-end-requires c κs = search needs
 enum-known-x-2 : tie.Need-enum-known-x-2
 enum-known-x-2 c = search needs
 
-wide16-requires : tie.Need-wide16-requires
-wide16-requires c κs = search needs
+cast-value-end : tie.Need-cast-value-end
+cast-value-end c = search needs
 
 value-end-requires : tie.Need-value-end-requires
 value-end-requires c κs = search needs
@@ -36,8 +35,8 @@ value-end-requires-2 c κs = search needs
 enum-known-x-4 : tie.Need-enum-known-x-4
 enum-known-x-4 c = search needs
 
-wide32-requires : tie.Need-wide32-requires
-wide32-requires c κs = search needs
+cast-value-end-2 : tie.Need-cast-value-end-2
+cast-value-end-2 c = search needs
 
 value-end-requires-3 : tie.Need-value-end-requires-3
 value-end-requires-3 c κs = search needs
@@ -49,13 +48,13 @@ returns-2 : tie.Need-returns-2
 returns-2 c = rw (c .before .before .before .x .given .1) (rw (c .before .report-of .ensures) at (c .polled-end .ensures), tt)
 
 returns-3 : tie.Need-returns-3
-returns-3 c = rw (c .before .before .before .x2 .given .1, ← c .before .wide16 .ensures .0) (c .value-end .ensures, c .before .wide16 .ensures .1)
+returns-3 c = rw (c .before .before .x2 .given .1) (c .value-end .ensures, c .before .known-told2 .given .0 .1)
 
 returns-4 : tie.Need-returns-4
 returns-4 c = rw (c .before .before .x3 .given .1) (c .value-end2 .ensures, tt)
 
 returns-5 : tie.Need-returns-5
-returns-5 c = rw (c .before .before .before .x4 .given .1, ← c .before .wide32 .ensures .0) (c .value-end3 .ensures, c .before .wide32 .ensures .1)
+returns-5 c = rw (c .before .before .x4 .given .1) (c .value-end3 .ensures, c .before .known-told4 .given .0 .1)
 
 pub success-end-spec : {M : Type 1} → statement M
 success-end-spec =
@@ -67,12 +66,12 @@ success-end-spec =
     report-of-requires
     polled-end-requires
     enum-known-x-2
-    wide16-requires
+    cast-value-end
     value-end-requires
     enum-known-x-3
     value-end-requires-2
     enum-known-x-4
-    wide32-requires
+    cast-value-end-2
     value-end-requires-3
     returns
     returns-2

@@ -17,25 +17,25 @@ enum-told c = search needs
 exchange-at-requires : tie.Need-exchange-at-requires
 exchange-at-requires c κs = search needs
 
+returns : tie.Need-returns
+unfolding begunBy reply.nextBy reply.headerIn
+returns c = λ h before put x. rw (c .before .enum-told .given .1) (still (c .before .before .before .before .before .pre) (c .exchange-at .ensures) refl)
+
 enum-told-2 : tie.Need-enum-told-2
 enum-told-2 c = search needs
 
 refuse-requires : tie.Need-refuse-requires
 refuse-requires c κs = search needs
 
+returns-2 : tie.Need-returns-2
+unfolding begunBy reply.nextBy reply.headerIn
+returns-2 c = λ h before put x. rw (c .before .enum-told2 .given .1) (still (c .before .before .before .before .before .pre) (c .refuse .ensures) refl)
+
 enum-told-3 : tie.Need-enum-told-3
 enum-told-3 c = search needs
 
 unbegun-requires : tie.Need-unbegun-requires
 unbegun-requires c κs = search needs
-
-returns : tie.Need-returns
-unfolding begunBy reply.nextBy reply.headerIn
-returns c = λ h before put x. rw (c .before .enum-told .given .1) (still (c .before .before .before .before .before .pre) (c .exchange-at .ensures) refl)
-
-returns-2 : tie.Need-returns-2
-unfolding begunBy reply.nextBy reply.headerIn
-returns-2 c = λ h before put x. rw (c .before .enum-told2 .given .1) (still (c .before .before .before .before .before .pre) (c .refuse .ensures) refl)
 
 same-length : tie.Need-same-length
 same-length c = search needs
@@ -50,11 +50,11 @@ begun-spec =
     (tie.spec
     enum-told
     exchange-at-requires
+    returns
     enum-told-2
     refuse-requires
+    returns-2
     enum-told-3
     unbegun-requires
-    returns
-    returns-2
     same-length
     returns-3)

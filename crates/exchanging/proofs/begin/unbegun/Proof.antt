@@ -23,12 +23,6 @@ put-wifi-requires c κs = search needs
 refuse-requires : tie.Need-refuse-requires
 refuse-requires c κs = search needs
 
-refuse-requires-2 : tie.Need-refuse-requires-2
-refuse-requires-2 c κs = search needs
-
-refuse-requires-3 : tie.Need-refuse-requires-3
-refuse-requires-3 c κs = search needs
-
 same-length : tie.Need-same-length
 same-length c = search needs
 
@@ -36,9 +30,15 @@ returns : tie.Need-returns
 unfolding to.unbegun
 returns c = λ h lay. simp (sym (c .before .before .before .before .before .before .before .before .is-dev-error .ensures) ∙ c .before .before .before .before .before .before .before .if1 .taken, sym (c .before .before .before .before .before .before .is-last .ensures) ∙ c .before .before .before .before .before .if2 .taken) (set (c .before .before .before .put-wifi .ensures) (c .refuse .ensures) refl)
 
+refuse-requires-2 : tie.Need-refuse-requires-2
+refuse-requires-2 c κs = search needs
+
 returns-2 : tie.Need-returns-2
 unfolding to.unbegun
 returns-2 c = λ h lay. simp (sym (c .before .before .before .before .is-dev-error .ensures) ∙ c .before .before .before .if1 .taken, sym (c .before .before .is-last .ensures) ∙ c .before .if2 .left) (still (c .before .before .before .before .before .before .pre) (c .refuse2 .ensures) refl)
+
+refuse-requires-3 : tie.Need-refuse-requires-3
+refuse-requires-3 c κs = search needs
 
 returns-3 : tie.Need-returns-3
 unfolding to.unbegun
@@ -52,9 +52,9 @@ unbegun-spec =
     is-last-requires
     put-wifi-requires
     refuse-requires
-    refuse-requires-2
-    refuse-requires-3
     same-length
     returns
+    refuse-requires-2
     returns-2
+    refuse-requires-3
     returns-3)

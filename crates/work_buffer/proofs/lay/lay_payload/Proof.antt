@@ -1,4 +1,6 @@
 use borrow.Author.Needs.{needs}
+use mathlib.Core.Path.{sym}
+use Rattle.slices.proofs.Over.{over-nil}
 use Rattle.definition.specs.Request.{wlcUp}
 use Rattle.work_buffer.proofs.lay.lay_payload.Statement.{statement}
 use Rattle.work_buffer.proofs.lay.lay_payload.Tie as tie
@@ -53,9 +55,6 @@ put-address-requires c κs = search needs
 
 enum-told-5 : tie.Need-enum-told-5
 enum-told-5 c = search needs
-
-put-zeros-requires-2 : tie.Need-put-zeros-requires-2
-put-zeros-requires-2 c κs = search needs
 
 enum-told-6 : tie.Need-enum-told-6
 enum-told-6 c = search needs
@@ -129,33 +128,30 @@ same-length-8 c = search needs
 returns-8 : tie.Need-returns-8
 returns-8 c = rw (c .before .before .before .before .enum-told4 .given .1) (c .before .before .put-address .ensures)
 
-same-length-9 : tie.Need-same-length-9
-same-length-9 c = search needs
-
 returns-9 : tie.Need-returns-9
 unfolding wlcUp
-returns-9 c = rw (c .before .before .before .before .enum-told5 .given .1) (c .before .before .put-zeros2 .ensures)
+returns-9 c = rw (c .enum-told5 .given .1) (sym (over-nil _ 0))
 
-same-length-10 : tie.Need-same-length-10
-same-length-10 c = search needs
+same-length-9 : tie.Need-same-length-9
+same-length-9 c = search needs
 
 returns-10 : tie.Need-returns-10
 returns-10 c = rw (c .before .before .before .before .enum-told6 .given .1) (c .before .before .put-ssid .ensures)
 
-same-length-11 : tie.Need-same-length-11
-same-length-11 c = search needs
+same-length-10 : tie.Need-same-length-10
+same-length-10 c = search needs
 
 returns-11 : tie.Need-returns-11
 returns-11 c = rw (c .before .before .before .before .enum-told7 .given .1) (c .before .before .put-key .ensures)
 
-same-length-12 : tie.Need-same-length-12
-same-length-12 c = search needs
+same-length-11 : tie.Need-same-length-11
+same-length-11 c = search needs
 
 returns-12 : tie.Need-returns-12
 returns-12 c = rw (c .before .before .before .before .enum-told8 .given .1) (c .before .before .put-sae-password .ensures)
 
-same-length-13 : tie.Need-same-length-13
-same-length-13 c = search needs
+same-length-12 : tie.Need-same-length-12
+same-length-12 c = search needs
 
 returns-13 : tie.Need-returns-13
 returns-13 c = rw (c .before .before .before .before .enum-told9 .given .1) (c .before .before .put-variable .ensures)
@@ -181,7 +177,6 @@ lay-payload-spec =
     enum-told-4
     put-address-requires
     enum-told-5
-    put-zeros-requires-2
     enum-told-6
     put-ssid-requires
     enum-told-7
@@ -206,13 +201,12 @@ lay-payload-spec =
     returns-7
     same-length-8
     returns-8
-    same-length-9
     returns-9
-    same-length-10
+    same-length-9
     returns-10
-    same-length-11
+    same-length-10
     returns-11
-    same-length-12
+    same-length-11
     returns-12
-    same-length-13
+    same-length-12
     returns-13)
