@@ -1,4 +1,6 @@
+pub mod Recordings
 pub mod Table
+pub mod Answers
 pub mod Keeps
 pub mod Buffer
 pub mod Log

@@ -3,10 +3,10 @@
 use mathlib.Core.Path.{_≡_, refl}
 use mathlib.Core.Bool.{Bool, true, false}
 use mathlib.Core.List.{List, [], _∷_, _++_, map}
-use Prim.Native.Nat.{ℕ, zero, suc, _+_, _-_, _*_}
+use Prim.Native.Nat.{ℕ, zero, suc, _+_, _*_}
 use lib.IntN.{pos, negsuc}
 use lib.ListN.{length, take, replicate}
-use Rattle.slices.specs.Le.{le16, le32, packed, round4}
+use Rattle.slices.specs.Le.{le32, round4}
 use Rattle.wlan.specs.State.{fresh, withSdpcm, withPending, withScan, withLink, sdpcmOf, setFrame, linkOf}
 use Rattle.wlan.specs.declared.WifiState.{WifiState}
 use Rattle.wlan.specs.declared.WifiAuth.{WifiAuth}
@@ -21,13 +21,14 @@ use Rattle.wlan.specs.declared.SdpcmPacket.{SdpcmPacket}
 use Rattle.wlan.specs.declared.RxPacket.{RxPacket}
 use Rattle.wlan.specs.declared.Sdpcm.{Sdpcm}
 use Rattle.wlan.specs.declared.State.{State}
-use Rattle.definition.specs.Bus.{Bytes, head}
+use Rattle.definition.specs.Bus.{Bytes}
 use Rattle.definition.specs.Prog.{World, world}
 use Rattle.definition.specs.Packet.{processRx}
 use Rattle.definition.specs.Calls.{Call}
 use Rattle.definition.specs.Run.{End, called}
 use Rattle.definition.specs.Player.{Line, line, badLine, numbers, emptyList, play}
 use Rattle.definition.specs.Open.{opened}
+use Rattle.definition.proofs.Recordings.{packetOf, interrupt, status, came, clock, tick, done, fault, waiting}
 
 -- ---- what a row is, and what it shows
 
@@ -67,12 +68,7 @@ row (calling c w recording room) = callShown (called c w recording (replicate ro
 row (limiting c w recording) = limitShown (called c w recording (replicate 1024 0) [])
 row (playing ws) = lines (play ws)
 
--- ---- packets and recordings
-
--- a packet of the declared size, channel, header length, flow and credit
-abbrev packetOf : ℕ → ℕ → ℕ → ℕ → ℕ → Bytes → Bytes
-packetOf size channel h flow credit payload =
-    le16 size ++ (le16 (65535 - size) ++ (0 ∷ channel ∷ 0 ∷ h ∷ flow ∷ credit ∷ 0 ∷ 0 ∷ payload))
+-- ---- packets
 
 -- an ioctl header with a flags word and a status
 abbrev control : ℕ → ℕ → Bytes
@@ -81,32 +77,6 @@ control flags status = le32 0 ++ (le32 0 ++ (le32 flags ++ le32 status))
 -- an event's first 16 bytes, 32 into its payload
 abbrev eventOf : ℕ → ℕ → Bytes
 eventOf type status = replicate 36 0 ++ (0 ∷ 0 ∷ 0 ∷ type ∷ 0 ∷ 0 ∷ 0 ∷ status ∷ 0 ∷ 0 ∷ 0 ∷ 0 ∷ [])
-
-abbrev interrupt : ℕ → List ℕ
-interrupt v = head 1 v ∷ []
-
-abbrev status : ℕ → List ℕ
-status v = head 2 0 ∷ v ∷ []
-
--- the packet came whole: its transfer has four bytes before it, and zeros up to a whole word after it
-abbrev came : Bytes → List ℕ
-came p = head 3 (length p) ∷ 0 ∷ packed p
-
-abbrev clock : ℕ → List ℕ
-clock t = head 4 0 ∷ t ∷ 0 ∷ []
-
-abbrev tick : ℕ → List ℕ
-tick t = head 5 0 ∷ t ∷ 0 ∷ []
-
-abbrev done : List ℕ
-done = head 6 0 ∷ []
-
-abbrev fault : ℕ → List ℕ
-fault p = head 7 p ∷ []
-
--- a status word that says n bytes wait
-abbrev waiting : ℕ → List ℕ
-waiting n = status (256 + 512 * n)
 
 -- ---- worlds
 

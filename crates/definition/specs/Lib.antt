@@ -11,5 +11,6 @@ pub mod Poll
 pub mod Join
 pub mod Calls
 pub mod Run
+pub mod History
 pub mod Player
 pub mod Open

@@ -13,7 +13,8 @@ use Rattle.definition.specs.Bus.{Bytes, Place, Op, wordsOf, logOf}
 use Rattle.definition.specs.Packet.{sizeIn}
 use Rattle.definition.specs.Prog.{World}
 use Rattle.definition.specs.Run.{words, called, shown}
-use Rattle.secrecy.specs.Secrecy.{Given, hidden, blotted, blot, seen, endOf, historyOf}
+use Rattle.definition.specs.History.{Given, endOf, historyOf}
+use Rattle.secrecy.specs.Secrecy.{hidden, blotted, blot, seen}
 
 pub blotted-length : (size : ℕ) (secret : Place) (i : ℕ) (p : Bytes) → length (blotted size secret i p) ≡ length p
 unfolding blotted

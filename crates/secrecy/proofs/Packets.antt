@@ -8,6 +8,7 @@ use lib.Dec.{ltb, leb, eqb}
 use lib.ListN.{length, take, getD}
 use Rattle.slices.specs.Pick.{pick}
 use Rattle.slices.specs.Le.{le32At}
+use Rattle.slices.proofs.Pick.{by-pick}
 use Rattle.wlan.specs.declared.Sdpcm.{Sdpcm}
 use Rattle.wlan.specs.declared.SdpcmPacket.{SdpcmPacket}
 use Rattle.wlan.specs.declared.Received.{Received}
@@ -15,11 +16,6 @@ use Rattle.wlan.specs.declared.RxPacket.{RxPacket}
 use Rattle.definition.specs.Bus.{Bytes}
 use Rattle.definition.specs.Packet.{sizeIn, rightComplement, isPacket, declared, accepted, controlOf, dataOf, eventAt, payloadOf, channelIn, headerLengthIn, processRx}
 use Rattle.secrecy.proofs.Bufs.{Alike, take-alike}
-
--- by cases of a test, the test's value kept
-pub by-pick {ℓ κ} : {A : Type ℓ} (P : A → Type κ) (v : Bool) {x y : A} → (v ≡ true → P x) → (v ≡ false → P y) → P (pick v x y)
-by-pick P true f g = f refl
-by-pick P false f g = g refl
 
 -- what a packet holds lies below n
 abbrev pub Below : ℕ → SdpcmPacket → Type 0

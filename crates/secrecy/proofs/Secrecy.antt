@@ -8,7 +8,8 @@ use Rattle.wlan.specs.State.{fresh}
 use Rattle.definition.specs.Bus.{Bytes, logOf}
 use Rattle.definition.specs.Prog.{world, Note}
 use Rattle.definition.specs.Run.{Run, runOf, called, shown}
-use Rattle.secrecy.specs.Secrecy.{Given, Same, none, more, blot, Seen, seen, observed, history, Secrecy}
+use Rattle.definition.specs.History.{Given}
+use Rattle.secrecy.specs.Secrecy.{Same, none, more, blot, Seen, seen, observed, history, Secrecy}
 use Rattle.secrecy.proofs.Twin.{Twin, left, right}
 use Rattle.secrecy.proofs.Runs.{AllHold, all-hold, hold-front, hold-back, ops-length, ops-blot, SameRun, same-run, runOf-rel}
 

@@ -6,19 +6,21 @@ use Prim.Native.Nat.{ℕ, zero, suc, _+_, _-_, _*_}
 use native.Mathlib.Omega.{arith}
 use borrow.Author.Tests.{leb-true, not-true}
 use lib.Dec.{leb, eqb}
-use lib.ListN.{length, getD, replicate}
+use lib.ListN.{getD, replicate}
 use Rattle.slices.specs.Pick.{pick}
-use Rattle.slices.specs.Le.{le16, le32, packed}
+use Rattle.slices.specs.Le.{le32}
 use Rattle.wlan.specs.Outcome.{refusalOf, valueOf}
 use Rattle.wlan.specs.State.{fresh}
 use Rattle.wlan.specs.declared.ScanList.{ScanList}
-use Rattle.definition.specs.Bus.{Bytes, head}
+use Rattle.definition.specs.Bus.{Bytes}
 use Rattle.definition.specs.Prog.{World, world, Note}
 use Rattle.definition.specs.Scan.{sameBytes}
 use Rattle.definition.specs.Calls.{Call}
 use Rattle.definition.specs.Player.{emptyList}
 use Rattle.definition.specs.Open.{opened}
-use Rattle.secrecy.specs.Secrecy.{Given, same, join, Same, none, more, Seen, seen, endOf, historyOf, next, observed, SeenAlike, history, Every, Came, Idle, hidden, blotted, blot}
+use Rattle.definition.proofs.Recordings.{packetOf, interrupt, status, clock, tick, done, fault, coming, sent}
+use Rattle.definition.specs.History.{Given, endOf, historyOf, next}
+use Rattle.secrecy.specs.Secrecy.{same, join, Same, none, more, Seen, seen, observed, SeenAlike, history, Every, Came, Idle, hidden, blotted, blot}
 use Rattle.secrecy.proofs.Secrecy.{secrecy}
 
 -- ---- the premises as tests
@@ -99,40 +101,9 @@ idle (Note.keyLaid frame reply) f r = (f, r)
 
 -- ---- packets and recordings
 
--- a packet of the declared size, channel, header length, flow and credit
-abbrev packetOf : ℕ → ℕ → ℕ → ℕ → ℕ → Bytes → Bytes
-packetOf size channel h flow credit payload =
-    le16 size ++ (le16 (65535 - size) ++ (0 ∷ channel ∷ 0 ∷ h ∷ flow ∷ credit ∷ 0 ∷ 0 ∷ payload))
-
 -- an ioctl header with an id and status 0
 abbrev control : ℕ → Bytes
 control id = le32 0 ++ (le32 0 ++ (le32 (id * 65536) ++ le32 0))
-
-abbrev interrupt : ℕ → List ℕ
-interrupt v = head 1 v ∷ []
-
-abbrev status : ℕ → List ℕ
-status v = head 2 0 ∷ v ∷ []
-
-abbrev clock : ℕ → List ℕ
-clock t = head 4 0 ∷ t ∷ 0 ∷ []
-
-abbrev tick : ℕ → List ℕ
-tick t = head 5 0 ∷ t ∷ 0 ∷ []
-
-abbrev done : List ℕ
-done = head 6 0 ∷ []
-
-abbrev fault : ℕ → List ℕ
-fault p = head 7 p ∷ []
-
--- a packet waits, and comes: as many bytes as it has
-abbrev coming : Bytes → List ℕ
-coming p = status (256 + 512 * length p) ++ (head 3 (length p) ∷ 0 ∷ packed p)
-
--- F2 is ready, and the write is done
-abbrev sent : List ℕ
-sent = status 32 ++ done
 
 -- a reply to id n, with a flow; it brings one more credit
 abbrev replied : ℕ → ℕ → List ℕ

@@ -15,16 +15,9 @@ use Rattle.definition.specs.Bus.{Bytes, Place, Op, logOf}
 use Rattle.definition.specs.Prog.{World, world, Note}
 use Rattle.definition.specs.Packet.{sizeIn}
 use Rattle.definition.specs.Calls.{Call}
-use Rattle.definition.specs.Run.{Run, runOf, End, called}
+use Rattle.definition.specs.History.{Given, endOf, historyOf, next}
 
 -- ---- what two runs are given
-
--- a call with its own recording, log and output, as they are at entry
-pub record Given : Type 0 where
-  pub call : Call
-  pub recording : List ℕ
-  pub log : List ℕ
-  pub output : Bytes
 
 -- 'the same but for the bytes (not the lengths) of join passphrases'
 pub data SameCall : Call → Call → Type 0 where
@@ -67,13 +60,6 @@ pub record Seen : Type 0 where
   pub len : ℕ
   pub log : List ℕ
 
-abbrev pub endOf : Given → World → End
-endOf g w = called (g .call) w (g .recording) (g .log) (g .output)
-
--- the same call with its history
-abbrev pub historyOf : Given → World → Run
-historyOf g w = runOf (g .call) w (g .recording) (length (g .log))
-
 -- the log is the call's own but for the hidden bytes
 unfoldable pub seen : Given → World → Seen
 seen g w =
@@ -86,12 +72,6 @@ seen g w =
       len = e .len;
       log = over (g .log) 0 (logOf (map blot (historyOf g w .ops)));
     }
-
--- 'State, work buffer and scan table pass along the list.'
-abbrev pub next : Given → World → World
-next g w =
-    let e = endOf g w in
-    world (e .st) (e .buf) (e .list)
 
 unfoldable pub observed : List Given → World → List Seen
 observed [] w = []

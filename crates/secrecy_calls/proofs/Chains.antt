@@ -20,7 +20,7 @@ use Rattle.definition.specs.Run.{Run, run, rolledBack, End, shown, runOf, calle
 use Rattle.going.specs.declared.CallEnd.{CallEnd}
 use Rattle.going.specs.Onward as onward
 use Rattle.going.proofs.Going.{run-ret, run-stop}
-use Rattle.secrecy.specs.Secrecy.{Given, endOf}
+use Rattle.definition.specs.History.{Given, endOf}
 use Rattle.secrecy_calls.specs.CallsSecrecy.{Lent, Entry, Exit, Ran, wifiInit, wifiScan, wifiConnect, wifiDisconnect, wifiAbortConnect, wifiPoll, sendData, getRxBuf, gpioSet, getMacAddr, getIoctl, setIoctl, writeIovar, up, after, Chain, none, more}
 
 -- ---- what a function can be given

@@ -7,7 +7,8 @@ use Rattle.wlan.specs.declared.State.{State}
 use Rattle.definition.specs.Bus.{Bytes}
 use Rattle.definition.specs.Prog.{World, world}
 use Rattle.definition.specs.Run.{End, called, shown}
-use Rattle.secrecy.specs.Secrecy.{Given, Same, seen, observed, endOf, history, Every, Came, Idle}
+use Rattle.definition.specs.History.{Given, endOf}
+use Rattle.secrecy.specs.Secrecy.{Same, seen, observed, history, Every, Came, Idle}
 use Rattle.secrecy.proofs.Secrecy.{secrecy}
 use Rattle.secrecy_calls.specs.CallsSecrecy.{Ran, wifiInit, wifiScan, wifiConnect, wifiDisconnect, wifiAbortConnect, wifiPoll, sendData, getRxBuf, gpioSet, getMacAddr, getIoctl, setIoctl, writeIovar, up, Chain, none, more, seenOf, compared, Logs, CallsSecrecy}
 

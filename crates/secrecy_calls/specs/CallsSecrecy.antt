@@ -15,7 +15,8 @@ use Rattle.definition.specs.Calls.{Call}
 use Rattle.definition.specs.Run.{End}
 use Rattle.going.specs.declared.CallEnd.{CallEnd}
 use Rattle.going.specs.Onward.{endOf}
-use Rattle.secrecy.specs.Secrecy.{Given, Same, Seen, blot, historyOf, history, Every, Came, Idle}
+use Rattle.definition.specs.History.{Given, historyOf}
+use Rattle.secrecy.specs.Secrecy.{Same, Seen, blot, history, Every, Came, Idle}
 use Rattle.cyw43.proofs.fresh.fresh_state.Reads as fresh-state
 use Rattle.cyw43.proofs.calls.wifi_init.Reads as wifi-init
 use Rattle.cyw43.proofs.calls.wifi_scan.Reads as wifi-scan
