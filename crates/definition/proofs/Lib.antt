@@ -1,7 +1,7 @@
 pub mod Recordings
 pub mod Table
 pub mod Answers
-pub mod Keeps
+pub mod Walk
 pub mod Buffer
 pub mod Log
 pub mod Refusals
