@@ -3,6 +3,8 @@ pub mod Table
 pub mod Answers
 pub mod Walk
 pub mod Buffer
+pub mod Credits
+pub mod Writes
 pub mod Log
 pub mod Refusals
 pub mod Compose

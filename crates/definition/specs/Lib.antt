@@ -12,5 +12,6 @@ pub mod Join
 pub mod Calls
 pub mod Run
 pub mod History
+pub mod Credits
 pub mod Player
 pub mod Open
