@@ -1,17 +1,19 @@
--- A call writes no packet whose number it has not spent just before, also one that is rolled back.
-use mathlib.Core.Path.{_≡_, refl, ap}
+-- A call writes no more packets than it spends sequence numbers, also one that is rolled back.
+use mathlib.Core.Path.{_≡_, refl, ap, _∙_}
 use mathlib.Core.List.{List, [], _∷_}
 use Prim.Native.Nat.{ℕ, _+_, _≤_}
 use native.Mathlib.Omega.{arith}
 use Rattle.definition.specs.Bus.{Op}
-use Rattle.definition.specs.Prog.{World, Note}
+use Rattle.definition.specs.Prog.{World}
 use Rattle.definition.specs.Calls.{Call}
 use Rattle.definition.specs.Run.{runOf}
+use Rattle.definition.specs.History.{folded}
+use Rattle.definition.specs.Credits.{Tally, tally, count}
 use Rattle.definition.proofs.Walk.Events.{Event, eventsOf, noteOf, operationOf, all, along}
 use Rattle.definition.proofs.Walk.Course.{Course, Steady, Plain}
 use Rattle.definition.proofs.Walk.Runs.{each-end, runOf-kept, runOf-told}
 
--- ---- what is counted: these two stand in the judge's specs
+-- ---- what is counted
 
 abbrev pub oneWrite : Op → ℕ
 oneWrite Op.readInterrupt = 0
@@ -24,36 +26,37 @@ oneWrite (Op.writeInterrupt v) = 0
 oneWrite Op.frameControl = 0
 oneWrite (Op.wait ns) = 0
 
+-- the packets that were written
 abbrev pub writes : List Op → ℕ
 writes [] = 0
 writes (q ∷ l) = oneWrite q + writes l
 
-abbrev pub oneSpent : Note → ℕ
-oneSpent (Note.received declared came) = 0
-oneSpent (Note.advanced n) = 0
-oneSpent Note.spent = 1
-oneSpent (Note.keyLaid frame reply) = 0
-
-abbrev pub spents : List Note → ℕ
-spents [] = 0
-spents (n ∷ l) = oneSpent n + spents l
-
 -- ---- the course
 
-record Counts : Type 0 where
+record Account : Type 0 where
   wrote : ℕ
-  numbers : ℕ
+  notes : Tally
 
-abbrev step : Event → Counts → Counts
-step (Event.noted n) g = record { wrote = g .wrote; numbers = g .numbers + oneSpent n }
-step (Event.logged q) g = record { wrote = g .wrote + oneWrite q; numbers = g .numbers }
+abbrev step : Event → Account → Account
+step (Event.noted n) g = record { wrote = g .wrote; notes = count n (g .notes) }
+step (Event.logged q) g = record { wrote = g .wrote + oneWrite q; notes = g .notes }
 step (Event.answered x) g = g
 
-abbrev Paid : Counts → Type 0
-Paid g = g .wrote ≤ g .numbers
+abbrev Paid : Account → Type 0
+Paid g = g .wrote ≤ g .notes .spent
 
-abbrev balance : Course
-balance = record { Acc = Counts; step = step; Holds = λ w g. Paid g; Landed = λ n w g. Paid g; Owing = λ n w g. g .wrote + 1 ≤ g .numbers; Reported = λ w g. Paid g; Ended = λ x w g. Paid g; Always = Paid }
+abbrev paying : Course
+paying =
+    record {
+      Acc = Account;
+      step = step;
+      Holds = λ w. Paid;
+      Landed = λ n w. Paid;
+      Owing = λ n w g. g .wrote + 1 ≤ g .notes .spent;
+      Reported = λ w. Paid;
+      Ended = λ x w. Paid;
+      Always = Paid;
+    }
 
 none : (q : Op) → Plain q → oneWrite q ≡ 0
 none Op.readInterrupt h = refl
@@ -66,7 +69,7 @@ none (Op.writeInterrupt v) h = refl
 none Op.frameControl h = refl
 none (Op.wait ns) h = refl
 
-steady : Steady balance
+steady : Steady paying
 steady =
     record {
       always = λ w g h. h;
@@ -100,22 +103,25 @@ steady =
       keyed = λ w g h. omega (arith, h);
     }
 
-wrote-all : (es : List Event) (g : Counts) → along step es g .wrote ≡ g .wrote + writes (all operationOf es)
+-- ---- of a run
+
+wrote-all : (es : List Event) (g : Account) → along step es g .wrote ≡ g .wrote + writes (all operationOf es)
 wrote-all [] g = omega arith
 wrote-all (Event.noted n ∷ es) g = wrote-all es (step (Event.noted n) g)
 wrote-all (Event.logged q ∷ es) g = omega (arith, wrote-all es (step (Event.logged q) g))
 wrote-all (Event.answered x ∷ es) g = wrote-all es g
 
-numbers-all : (es : List Event) (g : Counts) → along step es g .numbers ≡ g .numbers + spents (all noteOf es)
-numbers-all [] g = omega arith
-numbers-all (Event.noted n ∷ es) g = omega (arith, numbers-all es (step (Event.noted n) g))
-numbers-all (Event.logged q ∷ es) g = numbers-all es (step (Event.logged q) g)
-numbers-all (Event.answered x ∷ es) g = numbers-all es g
+notes-all : (es : List Event) (g : Account) → along step es g .notes ≡ folded count (all noteOf es) (g .notes)
+notes-all [] g = refl
+notes-all (Event.noted n ∷ es) g = notes-all es (step (Event.noted n) g)
+notes-all (Event.logged q ∷ es) g = notes-all es (step (Event.logged q) g)
+notes-all (Event.answered x ∷ es) g = notes-all es g
 
-pub runOf-balanced : (c : Call) (w : World) (recording : List ℕ) (room : ℕ) → writes (runOf c w recording room .ops) ≤ spents (runOf c w recording room .notes)
-runOf-balanced c w recording room =
-    let g : Counts = record { wrote = 0; numbers = 0 } in
+pub written-spent : (c : Call) (w : World) (recording : List ℕ) (room : ℕ) → writes (runOf c w recording room .ops) ≤ folded count (runOf c w recording room .notes) (tally 0 0) .spent
+written-spent c w recording room =
+    let g : Account = record { wrote = 0; notes = tally 0 0 } in
     let es = eventsOf c w recording room in
-    let h : Paid (along step es g) = each-end step Paid es g (runOf-kept balance steady c w recording room g (omega arith) .within) in
+    let h : Paid (along step es g) = each-end step Paid es g (runOf-kept paying steady c w recording room g (omega arith) .within) in
     let t = runOf-told c w recording room in
-    omega (arith, h, wrote-all es g, numbers-all es g, ap writes (t .ops), ap spents (t .notes))
+    let s : along step es g .notes .spent ≡ folded count (runOf c w recording room .notes) (tally 0 0) .spent = ap (λ (n : Tally). n .spent) (notes-all es g ∙ ap (λ ns. folded count ns (tally 0 0)) (t .notes)) in
+    omega (arith, h, wrote-all es g, ap writes (t .ops), s)

@@ -1,33 +1,18 @@
 -- Demand 3 of the exported functions: each result is the definition's, so the theorem over the definition is theirs.
 use mathlib.Core.Path.{_≡_, refl, sym, ap, _∙_}
-use mathlib.Core.List.{List, [], _∷_}
+use mathlib.Core.List.{List, _∷_}
 use Rattle.wlan.specs.State.{fresh}
 use Rattle.wlan.specs.declared.ScanList.{ScanList}
 use Rattle.wlan.specs.declared.State.{State}
 use Rattle.definition.specs.Bus.{Bytes}
 use Rattle.definition.specs.Prog.{World, world}
 use Rattle.definition.specs.Run.{End, called, shown}
-use Rattle.definition.specs.History.{Given, endOf}
+use Rattle.definition.specs.History.{Given}
 use Rattle.secrecy.specs.Secrecy.{Same, seen, observed, history, Every, Came, Idle}
 use Rattle.secrecy.proofs.Secrecy.{secrecy}
-use Rattle.secrecy_calls.specs.CallsSecrecy.{Ran, wifiInit, wifiScan, wifiConnect, wifiDisconnect, wifiAbortConnect, wifiPoll, sendData, getRxBuf, gpioSet, getMacAddr, getIoctl, setIoctl, writeIovar, up, Chain, none, more, seenOf, compared, Logs, CallsSecrecy}
-
--- each contract
-ran-is : {g : Given} {w : World} {e : End} → Ran g w e → e ≡ endOf g w
-ran-is (wifiInit κs country x y p) = p
-ran-is (wifiScan κs x y p) = p
-ran-is (wifiConnect κs auth ssid passphrase x y p) = p
-ran-is (wifiDisconnect κs x y p) = p
-ran-is (wifiAbortConnect κs x y p) = p
-ran-is (wifiPoll κs x y p) = p
-ran-is (sendData κs interface frame x y p) = p
-ran-is (getRxBuf κs st list buf out out′ r p) = p [] []
-ran-is (gpioSet κs pin level x y p) = p
-ran-is (getMacAddr κs x y p) = p
-ran-is (getIoctl κs cmd interface x y p) = p
-ran-is (setIoctl κs cmd value interface x y p) = p
-ran-is (writeIovar κs interface name bytes x y p) = p
-ran-is (up κs x y p) = p
+use Rattle.chains.specs.Chain.{Chain, none, more}
+use Rattle.chains.proofs.Chain.{ran-is}
+use Rattle.secrecy_calls.specs.CallsSecrecy.{seenOf, compared, Logs, CallsSecrecy}
 
 compared-is : {gs : List Given} {w : World} (c : Chain gs w) → compared c ≡ observed gs w
 unfolding compared observed seen

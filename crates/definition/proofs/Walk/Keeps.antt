@@ -16,6 +16,7 @@ abbrev pub BytesIn : Ans → Type 0
 BytesIn (fault p) = Unit {0}
 BytesIn (val v T) = Bytewise T
 
+-- a part returns
 abbrev pub Lawful : (C : Course) {A : Type 0} → A → World → C .Acc → Type 0
 Lawful C a w g = C .Holds w g
 
@@ -38,6 +39,7 @@ abbrev pub TurnEnds : (C : Course) (l : Loop) → Turn (Back l) → World → C 
 TurnEnds C l again w g = C .Holds w g
 TurnEnds C l (out b) w g = LoopEnds C l b w g
 
+-- a part returns with Q, or is refused
 abbrev pub FinQ : (C : Course) {A : Type 0} → (A → World → C .Acc → Type 0) → Fin A → World → C .Acc → Type 0
 FinQ C Q (fine a) w g = Q a w g
 FinQ C Q (failed e) w g = C .Holds w g

@@ -1,4 +1,4 @@
--- Every list of calls has a chain, so the theorem speaks of them all.
+-- Every list of calls has a chain, so a theorem over chains speaks of them all.
 use mathlib.Core.Path.{_≡_, refl}
 use mathlib.Core.Bool.{Bool, true, false}
 use mathlib.Core.List.{List, [], _∷_}
@@ -21,7 +21,7 @@ use Rattle.going.specs.declared.CallEnd.{CallEnd}
 use Rattle.going.specs.Onward as onward
 use Rattle.going.proofs.Going.{run-ret, run-stop}
 use Rattle.definition.specs.History.{Given, endOf}
-use Rattle.secrecy_calls.specs.CallsSecrecy.{Lent, Entry, Exit, Ran, wifiInit, wifiScan, wifiConnect, wifiDisconnect, wifiAbortConnect, wifiPoll, sendData, getRxBuf, gpioSet, getMacAddr, getIoctl, setIoctl, writeIovar, up, after, Chain, none, more}
+use Rattle.chains.specs.Chain.{Lent, Entry, Exit, Ran, wifiInit, wifiScan, wifiConnect, wifiDisconnect, wifiAbortConnect, wifiPoll, sendData, getRxBuf, gpioSet, getMacAddr, getIoctl, setIoctl, writeIovar, up, after, Chain, none, more}
 
 -- ---- what a function can be given
 

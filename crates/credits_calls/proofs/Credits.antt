@@ -1,0 +1,29 @@
+-- Credits never overdrawn, of the exported functions: each result is the definition's, so the theorem over the definition is theirs.
+use mathlib.Core.Path.{_≡_, sym, subst}
+use mathlib.Core.List.{List, [], _∷_}
+use denote.Ref.{now}
+use Rattle.wlan.specs.State.{fresh}
+use Rattle.wlan.specs.declared.ScanList.{ScanList}
+use Rattle.wlan.specs.declared.State.{State}
+use Rattle.definition.specs.Bus.{Bytes}
+use Rattle.definition.specs.Prog.{World, world}
+use Rattle.definition.specs.Run.{End}
+use Rattle.definition.specs.History.{Given, Along}
+use Rattle.definition.specs.Credits.{Tally, tally, count, Granted, Covered, CreditIsByte}
+use Rattle.definition.proofs.Credits.{never-overdrawn}
+use Rattle.chains.specs.Chain.{Chain, none, more}
+use Rattle.chains.proofs.Chain.{ran-is}
+use Rattle.credits_calls.specs.CallsCredits.{Kept, CallsNeverOverdrawn}
+use Rattle.credits_calls.proofs.Lent.{byte-at}
+
+kept : {gs : List Given} {w : World} (c : Chain gs w) (t : Tally) → Along count Covered Granted gs w t → Kept c t
+kept none t h = h
+kept (more {gs = gs} r c) t h =
+    (h .0, (h .1 .0, kept c _ (subst (λ (e : End). Along count Covered Granted gs (world (e .st) (e .buf) (e .list)) _) (sym (ran-is r)) (h .1 .1))))
+
+from-fresh : (gs : List Given) (b : Bytes) (l : ScanList) (s : State) → CreditIsByte b → s ≡ fresh → Along count Covered Granted gs (world s b l) (tally 0 0)
+from-fresh gs b l s h f = rw f (never-overdrawn gs b l h)
+
+-- the theorem
+pub calls-never-overdrawn : CallsNeverOverdrawn
+calls-never-overdrawn gs buf l s f c = kept c (tally 0 0) (from-fresh gs (now (buf .slice)) l s (byte-at (now (buf .slice)) (buf .bytes) 9) f)
