@@ -19,14 +19,17 @@ unfolding landed faulted
 closed n =
     record {
       always = λ w g h. tt;
-      link = λ x w g h. h;
-      scan = λ x w g h. h;
-      pending = λ x w g h. h;
-      mark = λ b w g h. h;
-      id = λ m w g h. h;
-      heard = λ r w g h. h;
-      cleared = λ w g h. h;
-      laid = λ at s w g i h. length-over (w .buf) at s ∙ h;
+      changes =
+          record {
+            link = λ x w g h. h;
+            scan = λ x w g h. h;
+            pending = λ x w g h. h;
+            mark = λ b w g h. h;
+            id = λ m w g h. h;
+            heard = λ r w g h. h;
+            cleared = λ w g h. h;
+            laid = λ at s w g i h. length-over (w .buf) at s ∙ h;
+          };
       landed = λ m T w g i h. length-over (w .buf) 0 _ ∙ h;
       faulted = λ m w g h. length-over (w .buf) 0 _ ∙ h;
       received = λ m w g h. h;

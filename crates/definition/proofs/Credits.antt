@@ -101,14 +101,17 @@ unfolding landed faulted header
 closed =
     record {
       always = λ w g l. l .granted;
-      link = λ x w g l. l;
-      scan = λ x w g l. l;
-      pending = λ x w g l. l;
-      mark = λ b w g l. l;
-      id = λ n w g l. l;
-      heard = λ r w g l. l;
-      cleared = λ w g l. l;
-      laid = λ at s w g i l. buffer _ w g (rw (getD-over-before (w .buf) at s 9 0 (omega (arith, i))) (l .byte)) l;
+      changes =
+          record {
+            link = λ x w g l. l;
+            scan = λ x w g l. l;
+            pending = λ x w g l. l;
+            mark = λ b w g l. l;
+            id = λ n w g l. l;
+            heard = λ r w g l. l;
+            cleared = λ w g l. l;
+            laid = λ at s w g i l. buffer _ w g (rw (getD-over-before (w .buf) at s 9 0 (omega (arith, i))) (l .byte)) l;
+          };
       landed = λ n T w g i l. buffer _ w g (over-front (w .buf) _ 9 (l .byte) (bytewise-append (take n (drop 4 T)) (drop n T) (bytewise-take n (drop 4 T) (bytewise-drop 4 T i)) (bytewise-drop n T i) 9)) l;
       faulted = λ n w g l. buffer _ w g (over-front (w .buf) _ 9 (l .byte) (bytewise-append (le32 (0x60000000 + n)) (replicate (round4 n) 0) (bytewise-le32 (0x60000000 + n)) (bytewise-zeros (round4 n)) 9)) l;
       received = λ n w g l. l;

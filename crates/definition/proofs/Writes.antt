@@ -79,14 +79,17 @@ steady =
       always-read = λ n g h. omega (arith, h);
       always-write = λ n p s w g h. h;
       always-answered = λ x g h. h;
-      link = λ x w g h. h;
-      scan = λ x w g h. h;
-      pending = λ x w g h. h;
-      mark = λ b w g h. h;
-      id = λ n w g h. h;
-      heard = λ r w g h. h;
-      cleared = λ w g h. h;
-      laid = λ at s w g i h. h;
+      changes =
+          record {
+            link = λ x w g h. h;
+            scan = λ x w g h. h;
+            pending = λ x w g h. h;
+            mark = λ b w g h. h;
+            id = λ n w g h. h;
+            heard = λ r w g h. h;
+            cleared = λ w g h. h;
+            laid = λ at s w g i h. h;
+          };
       plain = λ q x w g i h. omega (arith, h, none q i);
       waited = λ n w g h. omega (arith, h);
       faulted = λ n p w g h. omega (arith, h);

@@ -54,13 +54,13 @@ module _ (C : Course) (law : Steady C) where
 
   handled-keeps : (offset len : ℕ) (w : World) (g : C .Acc) → C .Holds w g → C .Holds (handled offset len w) g
   unfolding handled listAfter
-  handled-keeps offset len w g h = by-pick (λ x. C .Holds x g) (ltb len 48) (λ u. h) (λ u. law .link _ _ g (law .scan _ _ g (listed (eqb (e .«event_type») 69) (eqb (e .status) 8))))
+  handled-keeps offset len w g h = by-pick (λ x. C .Holds x g) (ltb len 48) (λ u. h) (λ u. law .changes .link _ _ g (law .changes .scan _ _ g (listed (eqb (e .«event_type») 69) (eqb (e .status) 8))))
     where
       e : AsyncEvent
       e = eventOf (drop offset (w .buf)) len
 
       listed : (x y : Bool) → C .Holds (world (w .st) (w .buf) (pick x (pick y (heard (w .list) (e .«scan_result»)) (w .list)) (w .list))) g
-      listed true true = law .heard _ w g h
+      listed true true = law .changes .heard _ w g h
       listed true false = h
       listed false y = h
 
@@ -86,8 +86,8 @@ module _ (C : Course) (law : Steady C) where
   byStatus-keeps : (s : ℕ) → Keeping (byStatus s)
   unfolding byStatus
   byStatus-keeps s w g h =
-      k-pick (eqb (bitAnd s 0x100) 0) (λ e. k-ret (law .mark false w g h))
-      (λ e. k-pick (unreadable s) (λ u. k-bind _ (k-operate law _ tt _ _ h) (λ m v t i. k-ret (law .mark false v t i))) (λ u. k-ask (law .always-read (pending s) g (law .always w g h)) (λ x y. arrived-keeps (pending s) x y w g h)))
+      k-pick (eqb (bitAnd s 0x100) 0) (λ e. k-ret (law .changes .mark false w g h))
+      (λ e. k-pick (unreadable s) (λ u. k-bind _ (k-operate law _ tt _ _ h) (λ m v t i. k-ret (law .changes .mark false v t i))) (λ u. k-ask (law .always-read (pending s) g (law .always w g h)) (λ x y. arrived-keeps (pending s) x y w g h)))
 
   statusRead-keeps : (more : M SdpcmPacket) (s : ℕ) → Keeping more → Keeping (statusRead more s)
   unfolding statusRead
@@ -128,7 +128,7 @@ module _ (C : Course) (law : Steady C) where
   stallTurn-keeps : (t0 : ℕ) (p : SdpcmPacket) (w : World) (g : C .Acc) → C .Holds w g → Keeps C (TurnEnds C (Loop.stallLoop t0)) (stallTurn t0 p w) g
   unfolding stallTurn
   stallTurn-keeps t0 SdpcmPacket.None w g h = stallTest-keeps t0 w g h
-  stallTurn-keeps t0 (SdpcmPacket.Control o l s) w g h = k-ret (law .pending _ w g h)
+  stallTurn-keeps t0 (SdpcmPacket.Control o l s) w g h = k-ret (law .changes .pending _ w g h)
   stallTurn-keeps t0 (SdpcmPacket.AsyncEvent o l) w g h = stallTest-keeps t0 _ g (handled-keeps o l w g h)
   stallTurn-keeps t0 (SdpcmPacket.Data o l i) w g h = stallTest-keeps t0 w g h
 
@@ -173,7 +173,7 @@ module _ (C : Course) (law : Steady C) where
   finished-keeps : (len : ℕ) (r : PendingIoctlResp) → Keeping (finished len r)
   unfolding finished
   finished-keeps len r w g h =
-      k-pick (isZero (r .status)) (λ e. k-pick (ltb 2048 (r .buf .offset + min len (r .buf .len))) (λ u. k-stop h) (λ u. k-ret (law .laid 28 _ w g (omega arith) h))) (λ e. k-stop h)
+      k-pick (isZero (r .status)) (λ e. k-pick (ltb 2048 (r .buf .offset + min len (r .buf .len))) (λ u. k-stop h) (λ u. k-ret (law .changes .laid 28 _ w g (omega arith) h))) (λ e. k-stop h)
 
   replyTurn-keeps : (p : SdpcmPacket) (w : World) (g : C .Acc) (t0 : ℕ) → C .Holds w g → Keeps C (TurnEnds C (Loop.replyLoop t0)) (replyTurn p w) g
   unfolding replyTurn
@@ -189,24 +189,24 @@ module _ (C : Course) (law : Steady C) where
   reply-keeps : (r : PendingResp) → Keeping (reply r)
   unfolding reply
   reply-keeps PendingResp.None w g h = k-bind {P = Lawful C} _ (k-operate law _ tt _ _ h) (λ t v j i. k-loop i (λ r u t j. k-raise {Q = Lawful C} r _ _ j))
-  reply-keeps (PendingResp.Some r) w g h = k-ret (law .pending _ w g h)
+  reply-keeps (PendingResp.Some r) w g h = k-ret (law .changes .pending _ w g h)
 
   doIoctl-keeps : (r : Request) → Keeping (doIoctl r)
   unfolding doIoctl numbered
   doIoctl-keeps r w g h =
-      k-bind {P = Lawful C} _ (sendCommon-keeps 0 _ _ _ g (law .id _ _ g (law .laid 12 _ w g (omega arith) h)))
+      k-bind {P = Lawful C} _ (sendCommon-keeps 0 _ _ _ g (law .changes .id _ _ g (law .changes .laid 12 _ w g (omega arith) h)))
       (λ u v t i. k-bind _ (reply-keeps (v .st .pending .«ioctl_resp») v t i) (finished-keeps (length (r .payload))))
 
   exchange-keeps : (r : Request) → Keeping (exchange r)
   unfolding exchange laid
-  exchange-keeps r w g h = doIoctl-keeps r _ g (law .laid 28 _ w g (omega arith) h)
+  exchange-keeps r w g h = doIoctl-keeps r _ g (law .changes .laid 28 _ w g (omega arith) h)
 
   -- ---- poll, and the loops' turns
 
   pollTurn-keeps : (p : SdpcmPacket) (w : World) (g : C .Acc) → C .Holds w g → Keeps C (TurnEnds C Loop.pollLoop) (pollTurn p w) g
   unfolding pollTurn
   pollTurn-keeps SdpcmPacket.None w g h = k-ret h
-  pollTurn-keeps (SdpcmPacket.Control o l s) w g h = k-ret (law .pending _ w g h)
+  pollTurn-keeps (SdpcmPacket.Control o l s) w g h = k-ret (law .changes .pending _ w g h)
   pollTurn-keeps (SdpcmPacket.AsyncEvent o l) w g h = k-ret (handled-keeps o l w g h)
   pollTurn-keeps (SdpcmPacket.Data o l i) w g h = k-pick (ltb l 14) (λ e. k-ret h) (λ e. k-ret (law .reporting o l w g e h))
 
@@ -216,12 +216,12 @@ module _ (C : Course) (law : Steady C) where
   disconnectTimeout-keeps WifiState.Connecting t w g h = k-ret h
   disconnectTimeout-keeps WifiState.Connected t w g h = k-ret h
   disconnectTimeout-keeps WifiState.Disconnecting StartedTick.None w g h = k-ret h
-  disconnectTimeout-keeps WifiState.Disconnecting (StartedTick.Some t) w g h = k-bind _ (k-operate law _ tt _ _ h) (λ m v j i. k-ret (by-pick (λ x. C .Holds x j) (leb 1000 (elapsed t m)) (λ e. law .link _ v j i) (λ e. i)))
+  disconnectTimeout-keeps WifiState.Disconnecting (StartedTick.Some t) w g h = k-bind _ (k-operate law _ tt _ _ h) (λ m v j i. k-ret (by-pick (λ x. C .Holds x j) (leb 1000 (elapsed t m)) (λ e. law .changes .link _ v j i) (λ e. i)))
 
   failureReport-keeps : (s : WifiState) (f : ConnectFailure) → Calling (failureReport s f)
   unfolding failureReport
   failureReport-keeps WifiState.Down ConnectFailure.None w g h = gives tt h
-  failureReport-keeps WifiState.Down (ConnectFailure.Some f) w g h = gives tt (law .link _ w g h)
+  failureReport-keeps WifiState.Down (ConnectFailure.Some f) w g h = gives tt (law .changes .link _ w g h)
   failureReport-keeps WifiState.Connecting f w g h = gives tt h
   failureReport-keeps WifiState.Connected f w g h = gives tt h
   failureReport-keeps WifiState.Disconnecting f w g h = gives tt h
@@ -258,7 +258,7 @@ module _ (C : Course) (law : Steady C) where
   unfolding keyLaid laid
   keyLaid-keeps r w g h =
       let i = law .keyed w g h in
-      k-note (law .always _ _ i) (k-ret (law .laid 28 _ w _ (omega arith) i))
+      k-note (law .always _ _ i) (k-ret (law .changes .laid 28 _ w _ (omega arith) i))
 
   pmkSet-keeps : (b : Bool) (p : Bytes) → Keeping (pmkSet b p)
   unfolding pmkSet
@@ -277,7 +277,7 @@ module _ (C : Course) (law : Steady C) where
   downOnError-keeps : (r : Fin (Unit {0})) (w : World) (g : C .Acc) → FinQ C (Lawful C) r w g → Keeps C (Gives C) (downOnError r w) g
   unfolding downOnError
   downOnError-keeps (fine u) w g h = gives tt h
-  downOnError-keeps (failed e) w g h = k-pick (isDevError e) (λ u. k-stop (law .link _ w g h)) (λ u. k-stop h)
+  downOnError-keeps (failed e) w g h = k-pick (isDevError e) (λ u. k-stop (law .changes .link _ w g h)) (λ u. k-stop h)
 
   lengthTested-keeps : (a : WifiAuth) (m : ℕ) → Keeping (lengthTested a m)
   unfolding lengthTested
@@ -305,7 +305,7 @@ module _ (C : Course) (law : Steady C) where
       (λ w g h. k-bind _ (pmkSet-keeps _ passphrase w g h)
       (λ u w g h. k-bind _ (saeSet-keeps _ passphrase w g h)
       (λ u. then _ _
-      (then _ _ (then _ _ (then _ _ (λ w g h. k-bind _ (k-attempt (ssidSent-keeps ssid _ g (law .link _ w g h))) downOnError-keeps))))))))))))
+      (then _ _ (then _ _ (then _ _ (λ w g h. k-bind _ (k-attempt (ssidSent-keeps ssid _ g (law .changes .link _ w g h))) downOnError-keeps))))))))))))
 
   ifDown-keeps : (m : M Result) (s : WifiState) → Calling m → Calling (ifDown m s)
   unfolding ifDown
@@ -338,12 +338,12 @@ module _ (C : Course) (law : Steady C) where
   unfolding taken
   taken-keeps m PendingRx.None w g h = k-stop h
   taken-keeps m (PendingRx.Some f) w g h =
-      k-pick (ltb m (f .len)) (λ e. k-stop (law .pending _ w g h))
-      (λ e. k-pick (ltb 2048 (f .offset + f .len)) (λ u. k-stop (law .pending _ w g h)) (λ u. gives tt (law .pending _ w g h)))
+      k-pick (ltb m (f .len)) (λ e. k-stop (law .changes .pending _ w g h))
+      (λ e. k-pick (ltb 2048 (f .offset + f .len)) (λ u. k-stop (law .changes .pending _ w g h)) (λ u. gives tt (law .changes .pending _ w g h)))
 
   disconnect-keeps : Calling disconnect
   unfolding disconnect
-  disconnect-keeps = then _ _ (λ w g h. k-bind _ (k-operate law _ tt _ _ h) (λ t v j i. gives tt (law .link _ v j i)))
+  disconnect-keeps = then _ _ (λ w g h. k-bind _ (k-operate law _ tt _ _ h) (λ t v j i. gives tt (law .changes .link _ v j i)))
 
   -- arguments are tested, then a request is exchanged
   tested : (b : Bool) (r : Request) (k : M Result) (w : World) (g : C .Acc) → C .Holds w g → Calling k → Keeps C (Gives C) (pick b ((exchange r >> k) w) (stop DriverError.InvalidArg w)) g
@@ -352,13 +352,13 @@ module _ (C : Course) (law : Steady C) where
   pub call-keeps : (c : Call) → Calling (call c)
   unfolding call scan join send gpio mac get setting variableSet
   call-keeps (Call.wifiInit c) w g h = initSta-keeps c w g h
-  call-keeps Call.wifiScan w g h = k-pick (w .st .scan .«scan_in_progress») (λ e. gives tt h) (λ e. then _ _ (λ v t i. gives tt (law .scan _ _ t (law .cleared v t i))) w g h)
-  call-keeps (Call.wifiConnect a s p) w g h = k-pick (ltb a 6) (λ e. ifDown-keeps _ (w .st .link .state) (λ v t i. joined-keeps _ s p _ t (law .link _ v t i)) w g h) (λ e. k-stop h)
+  call-keeps Call.wifiScan w g h = k-pick (w .st .scan .«scan_in_progress») (λ e. gives tt h) (λ e. then _ _ (λ v t i. gives tt (law .changes .scan _ _ t (law .changes .cleared v t i))) w g h)
+  call-keeps (Call.wifiConnect a s p) w g h = k-pick (ltb a 6) (λ e. ifDown-keeps _ (w .st .link .state) (λ v t i. joined-keeps _ s p _ t (law .changes .link _ v t i)) w g h) (λ e. k-stop h)
   call-keeps Call.wifiDisconnect w g h = disconnect-keeps w g h
   call-keeps Call.wifiAbortConnect w g h = disconnect-keeps w g h
   call-keeps Call.wifiPoll w g h = poll-keeps w g h
   call-keeps (Call.sendData i f) w g h =
-      k-pick (isInterface i && leb (length f) 2030) (λ e. k-bind _ (sendCommon-keeps 2 _ nowhere _ g (law .laid 12 _ w g (omega arith) h)) (λ u v t j. gives tt j)) (λ e. k-stop h)
+      k-pick (isInterface i && leb (length f) 2030) (λ e. k-bind _ (sendCommon-keeps 2 _ nowhere _ g (law .changes .laid 12 _ w g (omega arith) h)) (λ u v t j. gives tt j)) (λ e. k-stop h)
   call-keeps (Call.getRxBuf m) w g h = taken-keeps m (w .st .pending .rx) w g h
   call-keeps (Call.gpioSet p l) w g h = tested (ltb p 3) _ _ w g h (λ v t i. gives tt i)
   call-keeps Call.getMacAddr w g h = then _ _ (λ v t i. gives tt i) w g h

@@ -92,6 +92,20 @@ empty b = eqb (sizeIn b) 0 && eqb (complementIn b) 0
 
 -- ---- each change that the definition makes
 
+-- of the world alone
+pub record Changes {A : Type 0} (Holds : World → A → Type 0) : Type 0 where
+  -- the groups of the state
+  pub link : (x : Link) (w : World) (g : A) → Holds w g → Holds (withState w (withLink (w .st) x)) g
+  pub scan : (x : ScanMarks) (w : World) (g : A) → Holds w g → Holds (withState w (withScan (w .st) x)) g
+  pub pending : (x : Pending) (w : World) (g : A) → Holds w g → Holds (withState w (withPending (w .st) x)) g
+  pub mark : (b : Bool) (w : World) (g : A) → Holds w g → Holds (marked b w) g
+  pub id : (n : ℕ) (w : World) (g : A) → Holds w g → Holds (withState w (withSdpcm (w .st) (setId (w .st .sdpcm) n))) g
+  -- the scan list
+  pub heard : (r : ScanRecord) (w : World) (g : A) → Holds w g → Holds (world (w .st) (w .buf) (heard (w .list) r)) g
+  pub cleared : (w : World) (g : A) → Holds w g → Holds (world (w .st) (w .buf) (cleared (w .list))) g
+  -- the work buffer: requests, replies and frames are laid behind the header
+  pub laid : (at : ℕ) (s : Bytes) (w : World) (g : A) → 12 ≤ at → Holds w g → Holds (withBuf w (over (w .buf) at s)) g
+
 pub record Steady (C : Course) : Type 0 where
   pub always : (w : World) (g : C .Acc) → C .Holds w g → C .Always g
   pub always-landed : (n : ℕ) (w : World) (g : C .Acc) → C .Landed n w g → C .Always g
@@ -100,17 +114,7 @@ pub record Steady (C : Course) : Type 0 where
   pub always-read : (n : ℕ) (g : C .Acc) → C .Always g → C .Always (C .step (Event.logged (Op.readPacket n)) g)
   pub always-write : (n : ℕ) (p : Bytes) (secret : Place) (w : World) (g : C .Acc) → C .Owing n w g → C .Always (C .step (Event.logged (Op.writePacket p secret)) g)
   pub always-answered : (x : Ans) (g : C .Acc) → C .Always g → C .Always (C .step (Event.answered x) g)
-  -- the groups of the state
-  pub link : (x : Link) (w : World) (g : C .Acc) → C .Holds w g → C .Holds (withState w (withLink (w .st) x)) g
-  pub scan : (x : ScanMarks) (w : World) (g : C .Acc) → C .Holds w g → C .Holds (withState w (withScan (w .st) x)) g
-  pub pending : (x : Pending) (w : World) (g : C .Acc) → C .Holds w g → C .Holds (withState w (withPending (w .st) x)) g
-  pub mark : (b : Bool) (w : World) (g : C .Acc) → C .Holds w g → C .Holds (marked b w) g
-  pub id : (n : ℕ) (w : World) (g : C .Acc) → C .Holds w g → C .Holds (withState w (withSdpcm (w .st) (setId (w .st .sdpcm) n))) g
-  -- the scan list
-  pub heard : (r : ScanRecord) (w : World) (g : C .Acc) → C .Holds w g → C .Holds (world (w .st) (w .buf) (heard (w .list) r)) g
-  pub cleared : (w : World) (g : C .Acc) → C .Holds w g → C .Holds (world (w .st) (w .buf) (cleared (w .list))) g
-  -- the work buffer: requests, replies and frames are laid behind the header
-  pub laid : (at : ℕ) (s : Bytes) (w : World) (g : C .Acc) → 12 ≤ at → C .Holds w g → C .Holds (withBuf w (over (w .buf) at s)) g
+  pub changes : Changes (C .Holds)
   -- operations and their answers
   pub plain : (q : Op) (x : Ans) (w : World) (g : C .Acc) → Plain q → C .Holds w g → C .Holds w (answering C q x g)
   pub waited : (ns : ℕ) (w : World) (g : C .Acc) → C .Holds w g → C .Holds w (C .step (Event.logged (Op.wait ns)) g)

@@ -2,22 +2,16 @@
 -- It holds along every list of calls (`walked`).
 use mathlib.Core.Path.{_≡_, refl, ap, subst, _∙_}
 use mathlib.Core.List.{List, [], _∷_}
-use mathlib.Core.Bool.{Bool, true, false}
-use Prim.Native.Nat.{ℕ, _≤_}
+use mathlib.Core.Bool.{true, false}
+use Prim.Native.Nat.{ℕ}
 use lib.ListN.{length}
 use Rattle.slices.specs.Pick.{pick}
-use Rattle.slices.specs.Over.{over}
-use Rattle.wlan.specs.State.{withSdpcm, withPending, withScan, withLink, setId}
-use Rattle.wlan.specs.declared.Link.{Link}
+use Rattle.wlan.specs.State.{withSdpcm}
 use Rattle.wlan.specs.declared.Outcome.{Outcome}
-use Rattle.wlan.specs.declared.Pending.{Pending}
 use Rattle.wlan.specs.declared.Refusal.{Refusal}
-use Rattle.wlan.specs.declared.ScanMarks.{ScanMarks}
-use Rattle.wlan.specs.declared.ScanRecord.{ScanRecord}
 use Rattle.definition.specs.Bus.{Bytes}
 use Rattle.definition.specs.Prog.{World, world, withState, withBuf, Note}
 use Rattle.definition.specs.Packet.{declared, advance, processRx}
-use Rattle.definition.specs.Scan.{heard, cleared}
 use Rattle.definition.specs.Device.{landed, faulted, marked}
 use Rattle.definition.specs.Send.{free, headed}
 use Rattle.definition.specs.Join.{frameWaits, replyWaits}
@@ -25,7 +19,7 @@ use Rattle.definition.specs.Calls.{Call}
 use Rattle.definition.specs.Run.{Run, runOf, called, shown}
 use Rattle.definition.specs.History.{Given, next, folded, rollsBack, counted, Within, Along}
 use Rattle.definition.proofs.Walk.Events.{Event, eventsOf, noteOf, all, along, Each}
-use Rattle.definition.proofs.Walk.Course.{Course, Steady, Bytewise, CallEnds}
+use Rattle.definition.proofs.Walk.Course.{Course, Changes, Steady, Bytewise, CallEnds}
 use Rattle.definition.proofs.Walk.Runs.{runOf-kept, runOf-told}
 
 -- ---- an invariant
@@ -42,17 +36,8 @@ pub record Invariant : Type 1 where
 -- each change that the definition makes, and each note where it stands, keeps it
 pub record Closed (I : Invariant) : Type 0 where
   pub always : (w : World) (g : I .Acc) → I .Holds w g → I .Always g
-  -- the groups of the state
-  pub link : (x : Link) (w : World) (g : I .Acc) → I .Holds w g → I .Holds (withState w (withLink (w .st) x)) g
-  pub scan : (x : ScanMarks) (w : World) (g : I .Acc) → I .Holds w g → I .Holds (withState w (withScan (w .st) x)) g
-  pub pending : (x : Pending) (w : World) (g : I .Acc) → I .Holds w g → I .Holds (withState w (withPending (w .st) x)) g
-  pub mark : (b : Bool) (w : World) (g : I .Acc) → I .Holds w g → I .Holds (marked b w) g
-  pub id : (n : ℕ) (w : World) (g : I .Acc) → I .Holds w g → I .Holds (withState w (withSdpcm (w .st) (setId (w .st .sdpcm) n))) g
-  -- the scan list
-  pub heard : (r : ScanRecord) (w : World) (g : I .Acc) → I .Holds w g → I .Holds (world (w .st) (w .buf) (heard (w .list) r)) g
-  pub cleared : (w : World) (g : I .Acc) → I .Holds w g → I .Holds (world (w .st) (w .buf) (cleared (w .list))) g
-  -- the work buffer: requests, replies and frames are laid behind the header, what comes from the front
-  pub laid : (at : ℕ) (s : Bytes) (w : World) (g : I .Acc) → 12 ≤ at → I .Holds w g → I .Holds (withBuf w (over (w .buf) at s)) g
+  pub changes : Changes (I .Holds)
+  -- what comes is laid from the front
   pub landed : (n : ℕ) (T : Bytes) (w : World) (g : I .Acc) → Bytewise T → I .Holds w g → I .Holds (withBuf w (landed n T (w .buf))) g
   pub faulted : (n : ℕ) (w : World) (g : I .Acc) → I .Holds w g → I .Holds (withBuf w (faulted n (w .buf))) g
   -- the notes, each with the change that it is a note of
@@ -92,25 +77,18 @@ steady I c =
       always-read = λ n g h. h;
       always-write = λ n p s. c .always;
       always-answered = λ x g h. h;
-      link = c .link;
-      scan = c .scan;
-      pending = c .pending;
-      mark = c .mark;
-      id = c .id;
-      heard = c .heard;
-      cleared = c .cleared;
-      laid = c .laid;
+      changes = c .changes;
       plain = λ q x w g i h. h;
       waited = λ n w g h. h;
       faulted = λ n p. c .faulted n;
       landed = λ n v T w g s h. c .received n _ g (c .landed n T w g s h);
-      emptied = λ n w g e. c .mark false w g;
+      emptied = λ n w g e. c .changes .mark false w g;
       advanced = λ n w g e. c .advanced n w g;
       spent = c .spent;
       ready = λ n x w g h. h;
       unwritten = λ n w g h. h;
       written = λ n s x w g h. h;
-      reporting = λ offset len w g e. c .pending _ w g;
+      reporting = λ offset len w g e. c .changes .pending _ w g;
       reported = λ w g h. h;
       ended = λ x w g i h. h;
       keyed = c .keyed;
