@@ -8,7 +8,7 @@ use Rattle.wlan.specs.declared.State.{State}
 use Rattle.definition.specs.Bus.{Bytes}
 use Rattle.definition.specs.Prog.{World, world}
 use Rattle.definition.specs.Run.{End}
-use Rattle.definition.specs.History.{Given, Along}
+use Rattle.definition.specs.History.{Given, historyOf, counted, Along}
 use Rattle.definition.specs.Credits.{Tally, tally, count, Granted, Covered, CreditIsByte}
 use Rattle.definition.proofs.Credits.{never-overdrawn}
 use Rattle.chains.specs.Chain.{Chain, none, more}
@@ -18,8 +18,9 @@ use Rattle.credits_calls.proofs.Lent.{byte-at}
 
 kept : {gs : List Given} {w : World} (c : Chain gs w) (t : Tally) → Along count Covered Granted gs w t → Kept c t
 kept none t h = h
-kept (more {gs = gs} r c) t h =
-    (h .0, (h .1 .0, kept c _ (subst (λ (e : End). Along count Covered Granted gs (world (e .st) (e .buf) (e .list)) _) (sym (ran-is r)) (h .1 .1))))
+kept (more {g} {gs = gs} {w = w} r c) t h =
+    let u = counted count (historyOf g w) t in
+    (h .0, (h .1 .0, kept c u (subst (λ (e : End). Along count Covered Granted gs (world (e .st) (e .buf) (e .list)) u) (sym (ran-is r)) (h .1 .1))))
 
 from-fresh : (gs : List Given) (b : Bytes) (l : ScanList) (s : State) → CreditIsByte b → s ≡ fresh → Along count Covered Granted gs (world s b l) (tally 0 0)
 from-fresh gs b l s h f = rw f (never-overdrawn gs b l h)

@@ -2,11 +2,10 @@
 pub mod Witness
 use mathlib.Core.Path.{_≡_, refl, sym, _∙_}
 use mathlib.Core.Bool.{Bool, true, false, _&&_, not, true≢false}
-use mathlib.Core.Logic.{_⊎_, inl, inr}
 use mathlib.Core.List.{[], _∷_}
-use Prim.Native.Nat.{ℕ, zero, suc, _+_, _-_, _%_, _≤_, _<_}
+use Prim.Native.Nat.{ℕ, zero, suc, _+_, _-_, _%_, _<_}
 use native.Mathlib.Omega.{arith}
-use borrow.Author.Tests.{eqb-false, eqb-true}
+use borrow.Author.Tests.{eqb-false}
 use lib.Dec.{eqb}
 use lib.ListN.{take, drop, getD, replicate}
 use Rattle.slices.specs.Over.{over}
@@ -24,6 +23,10 @@ use Rattle.definition.specs.Credits.{Tally, tally, count, Granted, Cover
 use Rattle.definition.proofs.Walk.Answers.{bytewise-append, bytewise-take, bytewise-drop, bytewise-zeros, bytewise-le32}
 use Rattle.definition.proofs.Walk.Notes.{Closed, walked, along-map}
 
+-- where `creditIn` reads
+abbrev place : ℕ
+place = 9
+
 -- laid from the front
 over-front : (d s : Bytes) (i : ℕ) → getD d i 0 < 256 → getD s i 0 < 256 → getD (over d 0 s) i 0 < 256
 unfolding over
@@ -32,18 +35,18 @@ over-front (x ∷ d) [] i h g = h
 over-front (x ∷ d) (y ∷ s) zero h g = g
 over-front (x ∷ d) (y ∷ s) (suc i) h g = over-front d s i h g
 
--- credit and sequence are the counts modulo 256, what is used was granted, and a credit that is not brought is a byte
+-- credit and sequence are the counts modulo 256, what is spent was granted, and a credit that a read does not bring is a byte
 record LawOf (credit seq : ℕ) (buf : Bytes) (g : Tally) : Type 0 where
   credit-is : credit ≡ (1 + g .advances) % 256
   seq-is : seq ≡ g .spent % 256
   granted : Granted g
-  byte : getD buf 9 0 < 256
+  byte : creditIn buf < 256
 
 abbrev Law : World → Tally → Type 0
 Law w g = LawOf (w .st .sdpcm .«last_bus_data_credit») (w .st .sdpcm .«packet_tx_seq») (w .buf) g
 
--- another buffer, its byte 9 a byte
-buffer : (b : Bytes) (w : World) (g : Tally) → getD b 9 0 < 256 → Law w g → Law (withBuf w b) g
+-- another buffer
+buffer : (b : Bytes) (w : World) (g : Tally) → creditIn b < 256 → Law w g → Law (withBuf w b) g
 buffer b w g h l = record { credit-is = l .credit-is; seq-is = l .seq-is; granted = l .granted; byte = h }
 
 -- a packet: the stored credit moves by the advance that is noted
@@ -83,18 +86,9 @@ differ s h = go (eqb (s .sdpcm .«wlan_flow_control») 0) (eqb (s .sdpcm .«last
     go x false e h = eqb-false _ _ e
 
 spent-granted : (w : World) (g : Tally) → free (w .st) ≡ true → Law w g → Granted (count Note.spent g)
-spent-granted w g f l = go (less (g .spent) (1 + g .advances) (l .granted))
-  where
-    less : (m n : ℕ) → m ≤ n → (m ≡ n) ⊎ (m < n)
-    less m n h = by (eqb m n) refl
-      where
-        by : (b : Bool) → eqb m n ≡ b → (m ≡ n) ⊎ (m < n)
-        by true e = inl (eqb-true m n e)
-        by false e = inr (let d : m ≡ n → ⊥ = eqb-false m n e in omega (arith, h, d))
-
-    go : (g .spent ≡ 1 + g .advances) ⊎ (g .spent < 1 + g .advances) → Granted (count Note.spent g)
-    go (inl e) = absurd (differ (w .st) f (l .credit-is ∙ rw e at (sym (l .seq-is))))
-    go (inr h) = omega (arith, h)
+spent-granted w g f l =
+    let d : w .st .sdpcm .«last_bus_data_credit» ≡ w .st .sdpcm .«packet_tx_seq» → ⊥ = differ (w .st) f in
+    omega (arith, d, l .credit-is, l .seq-is, l .granted)
 
 closed : Closed (record { Acc = Tally; step = count; Holds = Law; Always = Granted })
 unfolding landed faulted header
@@ -110,10 +104,10 @@ closed =
             id = λ n w g l. l;
             heard = λ r w g l. l;
             cleared = λ w g l. l;
-            laid = λ at s w g i l. buffer _ w g (rw (getD-over-before (w .buf) at s 9 0 (omega (arith, i))) (l .byte)) l;
+            laid = λ at s w g i l. buffer _ w g (rw (getD-over-before (w .buf) at s place 0 (omega (arith, i))) (l .byte)) l;
           };
-      landed = λ n T w g i l. buffer _ w g (over-front (w .buf) _ 9 (l .byte) (bytewise-append (take n (drop 4 T)) (drop n T) (bytewise-take n (drop 4 T) (bytewise-drop 4 T i)) (bytewise-drop n T i) 9)) l;
-      faulted = λ n w g l. buffer _ w g (over-front (w .buf) _ 9 (l .byte) (bytewise-append (le32 (0x60000000 + n)) (replicate (round4 n) 0) (bytewise-le32 (0x60000000 + n)) (bytewise-zeros (round4 n)) 9)) l;
+      landed = λ n T w g i l. buffer _ w g (over-front (w .buf) _ place (l .byte) (bytewise-append (take n (drop 4 T)) (drop n T) (bytewise-take n (drop 4 T) (bytewise-drop 4 T i)) (bytewise-drop n T i) place)) l;
+      faulted = λ n w g l. buffer _ w g (over-front (w .buf) _ place (l .byte) (bytewise-append (le32 (0x60000000 + n)) (replicate (round4 n) 0) (bytewise-le32 (0x60000000 + n)) (bytewise-zeros (round4 n)) place)) l;
       received = λ n w g l. l;
       advanced = process-law;
       spent = λ channel size w g f l.
@@ -121,7 +115,7 @@ closed =
             credit-is = l .credit-is;
             seq-is = omega (arith, l .seq-is);
             granted = spent-granted w g f l;
-            byte = over-front (w .buf) (header size (w .st .sdpcm .«packet_tx_seq») channel) 9 (l .byte) (omega arith);
+            byte = over-front (w .buf) (header size (w .st .sdpcm .«packet_tx_seq») channel) place (l .byte) (omega arith);
           };
       keyed = λ w g l. l;
     }
