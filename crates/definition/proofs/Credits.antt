@@ -2,13 +2,11 @@
 pub mod Witness
 use mathlib.Core.Path.{_≡_, refl, sym, _∙_}
 use mathlib.Core.Bool.{Bool, true, false, _&&_, not, true≢false}
-use mathlib.Core.List.{[], _∷_}
-use Prim.Native.Nat.{ℕ, zero, suc, _+_, _-_, _%_, _<_}
+use Prim.Native.Nat.{ℕ, _+_, _-_, _%_, _<_}
 use native.Mathlib.Omega.{arith}
 use borrow.Author.Tests.{eqb-false}
 use lib.Dec.{eqb}
-use lib.ListN.{take, drop, getD, replicate}
-use Rattle.slices.specs.Over.{over}
+use lib.ListN.{take, drop, replicate}
 use Rattle.slices.specs.Le.{le32, round4}
 use Rattle.slices.proofs.Over.{getD-over-before}
 use Rattle.wlan.specs.State.{fresh, withSdpcm}
@@ -20,20 +18,12 @@ use Rattle.definition.specs.Packet.{isPacket, credits, creditIn, advance
 use Rattle.definition.specs.Device.{landed, faulted, marked}
 use Rattle.definition.specs.Send.{free}
 use Rattle.definition.specs.Credits.{Tally, tally, count, Granted, Covered, NeverOverdrawn}
-use Rattle.definition.proofs.Walk.Answers.{bytewise-append, bytewise-take, bytewise-drop, bytewise-zeros, bytewise-le32}
+use Rattle.definition.proofs.Bytewise.{byte-over, bytewise-append, bytewise-take, bytewise-drop, bytewise-zeros, bytewise-le32}
 use Rattle.definition.proofs.Walk.Notes.{Closed, walked, along-map}
 
 -- where `creditIn` reads
 abbrev place : ℕ
 place = 9
-
--- laid from the front
-over-front : (d s : Bytes) (i : ℕ) → getD d i 0 < 256 → getD s i 0 < 256 → getD (over d 0 s) i 0 < 256
-unfolding over
-over-front [] s i h g = h
-over-front (x ∷ d) [] i h g = h
-over-front (x ∷ d) (y ∷ s) zero h g = g
-over-front (x ∷ d) (y ∷ s) (suc i) h g = over-front d s i h g
 
 -- credit and sequence are the counts modulo 256, what is spent was granted, and a credit that a read does not bring is a byte
 record LawOf (credit seq : ℕ) (buf : Bytes) (g : Tally) : Type 0 where
@@ -106,8 +96,8 @@ closed =
             cleared = λ w g l. l;
             laid = λ at s w g i l. buffer _ w g (rw (getD-over-before (w .buf) at s place 0 (omega (arith, i))) (l .byte)) l;
           };
-      landed = λ n T w g i l. buffer _ w g (over-front (w .buf) _ place (l .byte) (bytewise-append (take n (drop 4 T)) (drop n T) (bytewise-take n (drop 4 T) (bytewise-drop 4 T i)) (bytewise-drop n T i) place)) l;
-      faulted = λ n w g l. buffer _ w g (over-front (w .buf) _ place (l .byte) (bytewise-append (le32 (0x60000000 + n)) (replicate (round4 n) 0) (bytewise-le32 (0x60000000 + n)) (bytewise-zeros (round4 n)) place)) l;
+      landed = λ n T w g i l. buffer _ w g (byte-over (w .buf) _ place (l .byte) (bytewise-append (take n (drop 4 T)) (drop n T) (bytewise-take n (drop 4 T) (bytewise-drop 4 T i)) (bytewise-drop n T i) place)) l;
+      faulted = λ n w g l. buffer _ w g (byte-over (w .buf) _ place (l .byte) (bytewise-append (le32 (0x60000000 + n)) (replicate (round4 n) 0) (bytewise-le32 (0x60000000 + n)) (bytewise-zeros (round4 n)) place)) l;
       received = λ n w g l. l;
       advanced = process-law;
       spent = λ channel size w g f l.
@@ -115,7 +105,7 @@ closed =
             credit-is = l .credit-is;
             seq-is = omega (arith, l .seq-is);
             granted = spent-granted w g f l;
-            byte = over-front (w .buf) (header size (w .st .sdpcm .«packet_tx_seq») channel) place (l .byte) (omega arith);
+            byte = byte-over (w .buf) (header size (w .st .sdpcm .«packet_tx_seq») channel) place (l .byte) (omega arith);
           };
       keyed = λ w g l. l;
     }

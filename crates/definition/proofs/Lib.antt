@@ -1,6 +1,7 @@
 pub mod Recordings
 pub mod Table
 pub mod Answers
+pub mod Bytewise
 pub mod Walk
 pub mod Buffer
 pub mod Credits

@@ -18,8 +18,8 @@ use Rattle.definition.specs.Scan.{sameBytes}
 use Rattle.definition.specs.Calls.{Call}
 use Rattle.definition.specs.Player.{emptyList}
 use Rattle.definition.specs.Open.{opened}
-use Rattle.definition.proofs.Recordings.{packetOf, interrupt, status, clock, tick, done, fault, coming, sent}
 use Rattle.definition.specs.History.{Given, endOf, historyOf, next}
+use Rattle.definition.proofs.Recordings.{packetOf, interrupt, status, clock, tick, done, fault, coming, sent}
 use Rattle.secrecy.specs.Secrecy.{same, join, Same, none, more, Seen, seen, observed, SeenAlike, history, Every, Came, Idle, hidden, blotted, blot}
 use Rattle.secrecy.proofs.Secrecy.{secrecy}
 

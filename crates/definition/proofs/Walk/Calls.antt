@@ -1,4 +1,4 @@
--- Every part of every call keeps the invariant.
+-- Every part of every call keeps a course.
 use mathlib.Core.Bool.{Bool, true, false, _&&_}
 use Prim.Native.Nat.{ℕ, zero, suc, _+_, _-_, _%_, min}
 use native.Mathlib.Omega.{arith}
@@ -36,16 +36,16 @@ use Rattle.definition.proofs.Walk.Course.{Course, Steady, Plain, answer
 use Rattle.definition.proofs.Walk.Keeps.{BytesIn, Lawful, Gives, Free, LoopEnds, TurnEnds, FinQ, Keeps, k-ret, k-stop, k-ask, k-loop, k-note, k-bind, k-attempt, k-raise, k-pick, k-valued, k-operate, k-wait, k-pause}
 
 module _ (C : Course) (law : Steady C) where
-  -- a part of a call keeps the law
-  abbrev Keeping : {A : Type 0} → M A → Type 0
-  Keeping m = (w : World) (g : C .Acc) → C .Holds w g → Keeps C (Lawful C) (m w) g
-
+  -- a part of a call keeps the course, and Q where it returns
   abbrev To : {A : Type 0} → (A → World → C .Acc → Type 0) → M A → Type 0
   To Q m = (w : World) (g : C .Acc) → C .Holds w g → Keeps C Q (m w) g
 
+  abbrev Keeping : {A : Type 0} → M A → Type 0
+  Keeping = To (Lawful C)
+
   -- a whole call, or its end
   abbrev Calling : M Result → Type 0
-  Calling m = (w : World) (g : C .Acc) → C .Holds w g → Keeps C (Gives C) (m w) g
+  Calling = To (Gives C)
 
   gives : {r : Result} {w : World} {g : C .Acc} → Other (r .success) → C .Holds w g → Keeps C (Gives C) (ret r w) g
   gives {r = r} {w = w} {g = g} i h = k-ret (law .ended (r .success) w g i h)
@@ -119,20 +119,20 @@ module _ (C : Course) (law : Steady C) where
 
   -- ---- sending
 
-  stallTest-keeps : (t0 : ℕ) (w : World) (g : C .Acc) → C .Holds w g → Keeps C (TurnEnds C (Loop.stallLoop t0)) (stallTest t0 w) g
+  stallTest-keeps : (t0 : ℕ) → To (TurnEnds C (Loop.stallLoop t0)) (stallTest t0)
   unfolding stallTest stillStalled
   stallTest-keeps t0 w g h =
       k-pick (free (w .st)) (λ e. k-ret (h, e))
       (λ e. k-bind {P = Lawful C} _ (k-operate law _ tt _ _ h) (λ t v j i. k-pick (ltb 1000000 (elapsed t0 t)) (λ e. k-stop i) (λ e. k-wait law _ v j i (λ t i. k-ret i))))
 
-  stallTurn-keeps : (t0 : ℕ) (p : SdpcmPacket) (w : World) (g : C .Acc) → C .Holds w g → Keeps C (TurnEnds C (Loop.stallLoop t0)) (stallTurn t0 p w) g
+  stallTurn-keeps : (t0 : ℕ) (p : SdpcmPacket) → To (TurnEnds C (Loop.stallLoop t0)) (stallTurn t0 p)
   unfolding stallTurn
   stallTurn-keeps t0 SdpcmPacket.None w g h = stallTest-keeps t0 w g h
   stallTurn-keeps t0 (SdpcmPacket.Control o l s) w g h = k-ret (law .changes .pending _ w g h)
   stallTurn-keeps t0 (SdpcmPacket.AsyncEvent o l) w g h = stallTest-keeps t0 _ g (handled-keeps o l w g h)
   stallTurn-keeps t0 (SdpcmPacket.Data o l i) w g h = stallTest-keeps t0 w g h
 
-  untilFree-keeps : (w : World) (g : C .Acc) → C .Holds w g → Keeps C (Free C) (untilFree w) g
+  untilFree-keeps : To (Free C) untilFree
   unfolding untilFree
   untilFree-keeps w g h = k-pick (free (w .st)) (λ e. k-ret (h, e)) (λ e. k-bind {P = Lawful C} _ (k-operate law _ tt _ _ h) (λ t v j i. k-loop i (λ r u t j. k-raise {Q = Free C} r _ _ j)))
 
@@ -175,16 +175,16 @@ module _ (C : Course) (law : Steady C) where
   finished-keeps len r w g h =
       k-pick (isZero (r .status)) (λ e. k-pick (ltb 2048 (r .buf .offset + min len (r .buf .len))) (λ u. k-stop h) (λ u. k-ret (law .changes .laid 28 _ w g (omega arith) h))) (λ e. k-stop h)
 
-  replyTurn-keeps : (p : SdpcmPacket) (w : World) (g : C .Acc) (t0 : ℕ) → C .Holds w g → Keeps C (TurnEnds C (Loop.replyLoop t0)) (replyTurn p w) g
+  replyTurn-keeps : (t0 : ℕ) (p : SdpcmPacket) → To (TurnEnds C (Loop.replyLoop t0)) (replyTurn p)
   unfolding replyTurn
-  replyTurn-keeps SdpcmPacket.None w g t0 h = k-wait law _ w g h (λ t i. k-ret i)
-  replyTurn-keeps (SdpcmPacket.Control o l s) w g t0 h = k-ret h
-  replyTurn-keeps (SdpcmPacket.AsyncEvent o l) w g t0 h = k-wait law _ w g h (λ t i. k-ret (handled-keeps o l w t i))
-  replyTurn-keeps (SdpcmPacket.Data o l i) w g t0 h = k-wait law _ w g h (λ t i. k-ret i)
+  replyTurn-keeps t0 SdpcmPacket.None w g h = k-wait law _ w g h (λ t i. k-ret i)
+  replyTurn-keeps t0 (SdpcmPacket.Control o l s) w g h = k-ret h
+  replyTurn-keeps t0 (SdpcmPacket.AsyncEvent o l) w g h = k-wait law _ w g h (λ t i. k-ret (handled-keeps o l w t i))
+  replyTurn-keeps t0 (SdpcmPacket.Data o l i) w g h = k-wait law _ w g h (λ t i. k-ret i)
 
-  inTime-keeps : (t0 t : ℕ) (w : World) (g : C .Acc) → C .Holds w g → Keeps C (TurnEnds C (Loop.replyLoop t0)) (inTime t0 t w) g
+  inTime-keeps : (t0 t : ℕ) → To (TurnEnds C (Loop.replyLoop t0)) (inTime t0 t)
   unfolding inTime
-  inTime-keeps t0 t w g h = k-pick (ltb (elapsed t0 t) 500000) (λ e. k-bind _ (pollDevice-keeps w g h) (λ p v j i. replyTurn-keeps p v j t0 i)) (λ e. k-stop h)
+  inTime-keeps t0 t w g h = k-pick (ltb (elapsed t0 t) 500000) (λ e. k-bind _ (pollDevice-keeps w g h) (replyTurn-keeps t0)) (λ e. k-stop h)
 
   reply-keeps : (r : PendingResp) → Keeping (reply r)
   unfolding reply
@@ -203,7 +203,7 @@ module _ (C : Course) (law : Steady C) where
 
   -- ---- poll, and the loops' turns
 
-  pollTurn-keeps : (p : SdpcmPacket) (w : World) (g : C .Acc) → C .Holds w g → Keeps C (TurnEnds C Loop.pollLoop) (pollTurn p w) g
+  pollTurn-keeps : (p : SdpcmPacket) → To (TurnEnds C Loop.pollLoop) (pollTurn p)
   unfolding pollTurn
   pollTurn-keeps SdpcmPacket.None w g h = k-ret h
   pollTurn-keeps (SdpcmPacket.Control o l s) w g h = k-ret (law .changes .pending _ w g h)
@@ -237,7 +237,7 @@ module _ (C : Course) (law : Steady C) where
   unfolding poll
   poll-keeps w g h = k-bind {P = LoopEnds C Loop.pollLoop} polled (k-loop {l = Loop.pollLoop} {w = w} {k = raise} h (λ r v t i. k-raise {Q = LoopEnds C Loop.pollLoop} r v t i)) polled-keeps
 
-  pub body-keeps : (l : Loop) (x : Ans) (w : World) (g : C .Acc) → C .Holds w g → Keeps C (TurnEnds C l) (body l x w) g
+  pub body-keeps : (l : Loop) (x : Ans) → To (TurnEnds C l) (body l x)
   unfolding body
   body-keeps (Loop.stallLoop t0) x w g h = k-bind _ (pollBy-keeps x w g h) (stallTurn-keeps t0)
   body-keeps (Loop.replyLoop t0) x w g h = k-bind _ (k-valued x _ _ h) (inTime-keeps t0)

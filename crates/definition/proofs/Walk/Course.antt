@@ -3,9 +3,9 @@
 -- run of every call (`Runs`).
 use mathlib.Core.Path.{_≡_}
 use mathlib.Core.Bool.{Bool, true, false, _&&_}
-use Prim.Native.Nat.{ℕ, _≤_, _<_}
+use Prim.Native.Nat.{ℕ, _≤_}
 use lib.Dec.{ltb, eqb}
-use lib.ListN.{getD, take}
+use lib.ListN.{take}
 use Rattle.slices.specs.Over.{over}
 use Rattle.slices.specs.Le.{round4}
 use Rattle.wlan.specs.State.{withSdpcm, withPending, withScan, withLink, setId}
@@ -25,11 +25,8 @@ use Rattle.definition.specs.Device.{landed, faulted, marked}
 use Rattle.definition.specs.Send.{free, headed}
 use Rattle.definition.specs.Poll.{holding}
 use Rattle.definition.specs.Join.{frameWaits, replyWaits}
+use Rattle.definition.proofs.Bytewise.{Bytewise}
 use Rattle.definition.proofs.Walk.Events.{Event}
-
--- each of its numbers is a byte
-abbrev pub Bytewise : Bytes → Type 0
-Bytewise s = (i : ℕ) → getD s i 0 < 256
 
 -- neither a packet's read nor a write
 abbrev pub Plain : Op → Type 0

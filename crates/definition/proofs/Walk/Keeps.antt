@@ -8,8 +8,9 @@ use Rattle.definition.specs.Bus.{Op, Ans, fault, val}
 use Rattle.definition.specs.Prog.{World, Note, Fin, fine, failed, Turn, again, out, Loop, stallLoop, replyLoop, pollLoop, Back, Prog, ret, stop, ask, say, loop, note, bind, attempt, raise, turned, valued, operate, pause}
 use Rattle.definition.specs.Send.{free}
 use Rattle.definition.specs.Poll.{Result}
+use Rattle.definition.proofs.Bytewise.{Bytewise}
 use Rattle.definition.proofs.Walk.Events.{Event}
-use Rattle.definition.proofs.Walk.Course.{Course, Steady, Plain, answering, noting, Bytewise}
+use Rattle.definition.proofs.Walk.Course.{Course, Steady, Plain, answering, noting}
 
 -- answers bring bytes
 abbrev pub BytesIn : Ans → Type 0

@@ -18,8 +18,9 @@ use Rattle.definition.specs.Join.{frameWaits, replyWaits}
 use Rattle.definition.specs.Calls.{Call}
 use Rattle.definition.specs.Run.{Run, runOf, called, shown}
 use Rattle.definition.specs.History.{Given, next, folded, rollsBack, counted, Within, Along}
+use Rattle.definition.proofs.Bytewise.{Bytewise}
 use Rattle.definition.proofs.Walk.Events.{Event, eventsOf, noteOf, all, along, Each}
-use Rattle.definition.proofs.Walk.Course.{Course, Changes, Steady, Bytewise, CallEnds}
+use Rattle.definition.proofs.Walk.Course.{Course, Changes, Steady, CallEnds}
 use Rattle.definition.proofs.Walk.Runs.{runOf-kept, runOf-told}
 
 -- ---- an invariant

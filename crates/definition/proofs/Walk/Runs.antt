@@ -13,8 +13,9 @@ use Rattle.definition.specs.Prog.{World, Note, Loop, Prog, ret, stop, as
 use Rattle.definition.specs.Poll.{Result, first}
 use Rattle.definition.specs.Calls.{Call, call}
 use Rattle.definition.specs.Run.{Rest, ended, refused, paused, full, Settled, at, logged, words, turning, settle, Run, rolledBack, afterwards, answered, unanswered, resumed, run, runOf}
+use Rattle.definition.proofs.Bytewise.{Bytewise}
 use Rattle.definition.proofs.Walk.Events.{Event, settling, taking, resuming, events, eventsOf, noteOf, operationOf, all, along, Each}
-use Rattle.definition.proofs.Walk.Course.{Course, Steady, CallEnds, Plain, Bytewise}
+use Rattle.definition.proofs.Walk.Course.{Course, Steady, CallEnds, Plain}
 use Rattle.definition.proofs.Walk.Keeps.{BytesIn, Gives, Keeps, k-ret, k-stop, k-ask, k-say, k-loop, k-note, k-bind, k-attempt, k-turned}
 use Rattle.definition.proofs.Walk.Answers.{AllBytewise, answers-bytewise, BytesTaken, taken-bytewise}
 use Rattle.definition.proofs.Walk.Calls.{first-plain, body-keeps, call-keeps}
