@@ -10,7 +10,7 @@ use Rattle.definition.specs.Run.{runOf}
 use Rattle.definition.specs.History.{folded}
 use Rattle.definition.specs.Credits.{Tally, tally, count}
 use Rattle.definition.proofs.Walk.Events.{Event, eventsOf, noteOf, operationOf, all, along}
-use Rattle.definition.proofs.Walk.Course.{Course, Steady, Plain}
+use Rattle.definition.proofs.Walk.Course.{Course, unchanged, Steady, Plain}
 use Rattle.definition.proofs.Walk.Runs.{each-end, runOf-kept, runOf-told}
 
 -- ---- what is counted
@@ -79,17 +79,7 @@ steady =
       always-read = λ n g h. omega (arith, h);
       always-write = λ n p s w g h. h;
       always-answered = λ x g h. h;
-      changes =
-          record {
-            link = λ x w g h. h;
-            scan = λ x w g h. h;
-            pending = λ x w g h. h;
-            mark = λ b w g h. h;
-            id = λ n w g h. h;
-            heard = λ r w g h. h;
-            cleared = λ w g h. h;
-            laid = λ at s w g i h. h;
-          };
+      changes = unchanged Paid;
       plain = λ q x w g i h. omega (arith, h, none q i);
       waited = λ n w g h. omega (arith, h);
       faulted = λ n p w g h. omega (arith, h);

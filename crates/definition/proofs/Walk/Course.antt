@@ -103,6 +103,20 @@ pub record Changes {A : Type 0} (Holds : World → A → Type 0) : Type 0 where
   -- the work buffer: requests, replies and frames are laid behind the header
   pub laid : (at : ℕ) (s : Bytes) (w : World) (g : A) → 12 ≤ at → Holds w g → Holds (withBuf w (over (w .buf) at s)) g
 
+-- what is said of the account alone
+pub unchanged : {A : Type 0} (P : A → Type 0) → Changes (λ w. P)
+unchanged P =
+    record {
+      link = λ x w g h. h;
+      scan = λ x w g h. h;
+      pending = λ x w g h. h;
+      mark = λ b w g h. h;
+      id = λ n w g h. h;
+      heard = λ r w g h. h;
+      cleared = λ w g h. h;
+      laid = λ at s w g i h. h;
+    }
+
 pub record Steady (C : Course) : Type 0 where
   pub always : (w : World) (g : C .Acc) → C .Holds w g → C .Always g
   pub always-landed : (n : ℕ) (w : World) (g : C .Acc) → C .Landed n w g → C .Always g
