@@ -39,7 +39,7 @@
 /* Where a session's bytes have what a caller may want to see. Words are little-endian. */
 enum {
     CYW43_SEQUENCE = 0, /* of the next packet to be sent */
-    CYW43_CREDIT = 1, /* the chip's last: (credit - sequence) modulo 256 packets may go before another comes, and never more do */
+    CYW43_CREDIT = 1, /* the chip's last: (credit - sequence) modulo 256 of it is left; at 0, or while flow is not 0, a packet waits */
     CYW43_FLOW = 2,
     CYW43_ID = 3,
     CYW43_SCAN_DONE = 5,

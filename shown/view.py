@@ -77,7 +77,7 @@ class View:
 
     def result(self, call, end):
         kept = ", as before the call" if end.refusal in names.ROLLED_BACK else ""
-        left = (end.credit - end.sequence) % 256  # packets that may still be sent before the next credit
+        left = (end.credit - end.sequence) % 256  # of the credit
         credit = f"sequence {end.sequence}, credit {end.credit} ({left} left)"
         state = f"state {names.named(names.STATES, end.state)}, {credit}, flow {end.flow}, id {end.id}{kept}"
         return [f"    = {self.outcome(call, end)}", f"      {state}"]

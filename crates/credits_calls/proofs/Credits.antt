@@ -1,6 +1,7 @@
 -- Credits never overdrawn, of the exported functions: each result is the definition's, so the theorem over the definition is theirs.
 use mathlib.Core.Path.{_≡_, sym, subst}
-use mathlib.Core.List.{List, [], _∷_}
+use mathlib.Core.List.{List}
+use native.Mathlib.Omega.{arith}
 use denote.Ref.{now}
 use Rattle.wlan.specs.State.{fresh}
 use Rattle.wlan.specs.declared.ScanList.{ScanList}
@@ -11,10 +12,9 @@ use Rattle.definition.specs.Run.{End}
 use Rattle.definition.specs.History.{Given, historyOf, counted, Along}
 use Rattle.definition.specs.Credits.{Tally, tally, count, Granted, Covered, CreditIsByte}
 use Rattle.definition.proofs.Credits.{never-overdrawn}
-use Rattle.chains.specs.Chain.{Chain, none, more}
+use Rattle.chains.specs.Chain.{Lent, Chain, none, more}
 use Rattle.chains.proofs.Chain.{ran-is}
-use Rattle.credits_calls.specs.CallsCredits.{Kept, CallsNeverOverdrawn}
-use Rattle.credits_calls.proofs.Lent.{byte-at}
+use Rattle.credits_calls.specs.CallsCredits.{CreditRead, Kept, CallsNeverOverdrawn}
 
 kept : {gs : List Given} {w : World} (c : Chain gs w) (t : Tally) → Along count Covered Granted gs w t → Kept c t
 kept none t h = h
@@ -25,6 +25,10 @@ kept (more {g} {gs = gs} {w = w} r c) t h =
 from-fresh : (gs : List Given) (b : Bytes) (l : ScanList) (s : State) → CreditIsByte b → s ≡ fresh → Along count Covered Granted gs (world s b l) (tally 0 0)
 from-fresh gs b l s h f = rw f (never-overdrawn gs b l h)
 
+-- the byte that was read
+credit-byte : (buf : Lent) → CreditRead buf → CreditIsByte (now buf)
+credit-byte buf r = omega (arith, r .read, r .widened .0, r .widened .1)
+
 -- the theorem
 pub calls-never-overdrawn : CallsNeverOverdrawn
-calls-never-overdrawn gs buf l s f c = kept c (tally 0 0) (from-fresh gs (now (buf .slice)) l s (byte-at (now (buf .slice)) (buf .bytes) 9) f)
+calls-never-overdrawn gs buf l s f r c = kept c (tally 0 0) (from-fresh gs (now buf) l s (credit-byte buf r) f)
