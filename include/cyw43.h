@@ -8,7 +8,8 @@
  *           content will do, and sessions may share them. What they have after a call is not said below; it may be bytes of session
  *           and buf, a passphrase too.
  * rec       the recording: the words of the bus's answers so far, from the call's beginning on.
- * log       the bus operations that the call has asked for, as words, are put here.
+ * log       the bus operations that the call has asked for, as words, are put here. For cyw43_poll one word more than rec has is
+ *           always enough, 65 for recordings of up to 64 words; README.md, 'How long a log must be', has the number for each length.
  * buf       the work buffer, CYW43_BUFFER_BYTES bytes, the same for all calls of a session.
  * result    result[0] becomes the call's value, result[1] the number of words in log; what does not fit is left out.
  *

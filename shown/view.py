@@ -29,10 +29,16 @@ class View:
     # ---- operations
 
     def operations(self, call, end):
-        """A list of lines for each operation."""
+        """A list of lines for each operation, with the wait after it."""
         found = session.answers(call.recording)
         answers, left = iter(found), len(call.recording) - sum(map(len, found))
-        shown = [self.operation(call, op, answers, left) for op in session.operations(end.log)]
+        shown = []
+        for op in session.operations(end.log):
+            lines = self.operation(call, op, answers, left)
+            if shown and op[0] >> 28 == bus.WAIT:
+                shown[-1] += lines
+            else:
+                shown.append(lines)
         unused = sum(1 for _ in answers)
         return shown + ([[f"    {count(unused, 'recorded answer')} not used"]] if unused else [])
 
@@ -80,7 +86,14 @@ class View:
         left = (end.credit - end.sequence) % 256  # of the credit
         credit = f"sequence {end.sequence}, credit {end.credit} ({left} left)"
         state = f"state {names.named(names.STATES, end.state)}, {credit}, flow {end.flow}, id {end.id}{kept}"
-        return [f"    = {self.outcome(call, end)}", f"      {state}"]
+        return [f"    = {self.outcome(call, end)}", f"      {state}", *self.log_length(call, end)]
+
+    def log_length(self, call, end):
+        """Of a poll, how long its log is, and how long one can get with such a recording."""
+        if call.number != POLL:
+            return []
+        recorded = len(call.recording)
+        return [f"      log of {count(len(end.log), 'word')}, at most {longest_log(recorded):,} for a recording of {count(recorded, 'word')}"]
 
     def outcome(self, call, end):
         if end.refusal:
@@ -100,6 +113,11 @@ class View:
     def value(self, data, text):
         brought = any(payload[: len(data)] == data for payload in self.replies)
         return text if brought or not self.laid else "a value, not shown: no reply above has it, and a passphrase may lie there"
+
+
+def longest_log(recorded):
+    """The longest log that a poll can leave, by the words of its recording: `most` of crates/definition/specs/Longest.antt."""
+    return 2 if recorded == 1 else recorded // 2 * 2 + 1
 
 
 def once(groups):

@@ -1,5 +1,5 @@
 -- What a recorded answer brings: a packet its bytes, any other none.
-use mathlib.Core.Path.{_≡_}
+use mathlib.Core.Path.{_≡_, refl, sym}
 use mathlib.Core.Bool.{_||_}
 use mathlib.Core.List.{List, []}
 use Prim.Native.Nat.{ℕ, _+_, _*_, _<_}
@@ -11,17 +11,17 @@ use Rattle.slices.specs.Le.{bytesOf}
 use Rattle.slices.proofs.Pick.{by-pick}
 use Rattle.definition.specs.Bus.{Answer, answer, answerOf, kindOf, lowOf}
 
--- by the head's kind and its low bits
-pub answerOf-by : (P : Answer → Type 0) (ws : List ℕ) → ((k v : ℕ) → (k ≡ 3 → ⊥) → P (answer k v []))
+-- by the head's kind and its low bits: an answer that none takes, one of the head's kind that brings no bytes, a packet
+pub answerOf-kinds : (P : Answer → Type 0) (ws : List ℕ) → P (answer 0 0 []) → ((k v : ℕ) → (k ≡ 3 → ⊥) → k ≡ kindOf (getD ws 0 0) → P (answer k v []))
     → (kindOf (getD ws 0 0) ≡ 3 → lowOf (getD ws 0 0) < 65536 → P (answer 3 (lowOf (getD ws 0 0)) (bytesOf (drop 1 ws)))) → P (answerOf ws)
 unfolding answerOf
-answerOf-by P ws other packet =
-    by-pick P (eqb k 1) (λ e. by-pick P (ltb low 65536) (λ u. other 1 low (λ v. omega arith)) (λ u. none))
-    (λ e. by-pick P (eqb k 2) (λ e. by-pick P (eqb low 0) (λ u. other 2 (getD ws 1 0) (λ v. omega arith)) (λ u. none))
+answerOf-kinds P ws none other packet =
+    by-pick P (eqb k 1) (λ e. by-pick P (ltb low 65536) (λ u. other 1 low (λ v. omega arith) (sym (eqb-true k 1 e))) (λ u. none))
+    (λ e. by-pick P (eqb k 2) (λ e. by-pick P (eqb low 0) (λ u. other 2 (getD ws 1 0) (λ v. omega arith) (sym (eqb-true k 2 e))) (λ u. none))
     (λ e. by-pick P (eqb k 3) (λ e. by-pick P (ltb low 65536) (λ u. packet (eqb-true k 3 e) (ltb-true low 65536 u)) (λ u. none))
-    (λ e. by-pick P (eqb k 4 || eqb k 5) (λ f. by-pick P (eqb low 0) (λ u. other k (getD ws 1 0 + 4294967296 * getD ws 2 0) (eqb-false k 3 e)) (λ u. none))
-    (λ e. by-pick P (eqb k 6) (λ e. by-pick P (eqb low 0) (λ u. other 6 0 (λ v. omega arith)) (λ u. none))
-    (λ e. by-pick P (eqb k 7) (λ e. by-pick P (ltb low 10) (λ u. other 7 low (λ v. omega arith)) (λ u. none)) (λ e. none))))))
+    (λ e. by-pick P (eqb k 4 || eqb k 5) (λ f. by-pick P (eqb low 0) (λ u. other k (getD ws 1 0 + 4294967296 * getD ws 2 0) (eqb-false k 3 e) refl) (λ u. none))
+    (λ e. by-pick P (eqb k 6) (λ e. by-pick P (eqb low 0) (λ u. other 6 0 (λ v. omega arith) (sym (eqb-true k 6 e))) (λ u. none))
+    (λ e. by-pick P (eqb k 7) (λ e. by-pick P (ltb low 10) (λ u. other 7 low (λ v. omega arith) (sym (eqb-true k 7 e))) (λ u. none)) (λ e. none))))))
   where
     k : ℕ
     k = kindOf (getD ws 0 0)
@@ -29,5 +29,7 @@ answerOf-by P ws other packet =
     low : ℕ
     low = lowOf (getD ws 0 0)
 
-    none : P (answer 0 0 [])
-    none = other 0 0 (λ v. omega arith)
+-- where only a packet's kind matters
+pub answerOf-by : (P : Answer → Type 0) (ws : List ℕ) → ((k v : ℕ) → (k ≡ 3 → ⊥) → P (answer k v []))
+    → (kindOf (getD ws 0 0) ≡ 3 → lowOf (getD ws 0 0) < 65536 → P (answer 3 (lowOf (getD ws 0 0)) (bytesOf (drop 1 ws)))) → P (answerOf ws)
+answerOf-by P ws other packet = answerOf-kinds P ws (other 0 0 (λ v. omega arith)) (λ k v n e. other k v n) packet

@@ -7,5 +7,6 @@ pub mod Buffer
 pub mod Credits
 pub mod Writes
 pub mod Log
+pub mod Longest
 pub mod Refusals
 pub mod Compose

@@ -14,4 +14,5 @@ pub mod Run
 pub mod History
 pub mod Credits
 pub mod Player
+pub mod Longest
 pub mod Open
