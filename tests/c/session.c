@@ -1,18 +1,19 @@
 /* Plays the player's input through the C entries, as a board does: each call begins with an empty recording; while it is refused
  * with 8, the log's last operation is done on a simulated bus, its answer is recorded, and the call is made again. The bus has the
- * answers of the input. Prints what the player prints. */
+ * answers of the input. A poll is lent a log of one word more than its recording has. Prints what the player prints. */
 #include <cyw43.h>
 #include <stdio.h>
 #include <stdlib.h>
 #include <string.h>
 
-enum { LOG_WORDS = 8192, RECORDING_WORDS = 4096, ARGUMENT_BYTES = 2048 };
+enum { LOG_WORDS = 8192, RECORDING_WORDS = 4096, ARGUMENT_BYTES = 2048, POLL = 6 };
 
 static uint8_t session[CYW43_SESSION_BYTES];
 static uint8_t undo[CYW43_UNDO_BYTES];
 static size_t undo_bytes = sizeof undo;
 static uint8_t buf[CYW43_BUFFER_BYTES];
 static uint32_t log_words[LOG_WORDS];
+static size_t log_room = LOG_WORDS;
 static uint64_t result[2];
 
 struct call {
@@ -102,7 +103,7 @@ static uint32_t wanted(size_t len)
     return log_words[last];
 }
 
-#define LENT session, sizeof session, undo, undo_bytes, rec, n, log_words, LOG_WORDS, buf, sizeof buf, result, 2
+#define LENT session, sizeof session, undo, undo_bytes, rec, n, log_words, log_room, buf, sizeof buf, result, 2
 
 /* The call with the first n words of its answers; 1 where its argument bytes are too few or too many. */
 static uint32_t enter(struct call *c, size_t n)
@@ -110,13 +111,14 @@ static uint32_t enter(struct call *c, size_t n)
     const uint32_t *rec = c->answers;
     const uint8_t *a = c->args;
     size_t k = c->count;
+    log_room = c->number == POLL ? n + 1 : LOG_WORDS;
     switch (c->number) {
     case 1: return k == 4 ? cyw43_init(le32(a), LENT) : 1;
     case 2: return k == 0 ? cyw43_scan(LENT) : 1;
     case 3: return k >= 8 && le32(a + 4) <= k - 8 ? cyw43_join(le32(a), a + 8, le32(a + 4), a + 8 + le32(a + 4), k - 8 - le32(a + 4), LENT) : 1;
     case 4: return k == 0 ? cyw43_leave(LENT) : 1;
     case 5: return k == 0 ? cyw43_abort(LENT) : 1;
-    case 6: return k == 0 ? cyw43_poll(LENT) : 1;
+    case POLL: return k == 0 ? cyw43_poll(LENT) : 1;
     case 7: return k >= 4 ? cyw43_send(le32(a), a + 4, k - 4, LENT) : 1;
     case 8: return k == 4 ? cyw43_take(session, sizeof session, buf, sizeof buf, c->out, le32(a), result, 2) : 1;
     case 9: return k == 8 ? cyw43_gpio(le32(a), le32(a + 4), LENT) : 1;
@@ -185,6 +187,7 @@ static void begin(void)
     memset(undo, 7, sizeof undo);
     memset(buf, 7, sizeof buf);
     memset(log_words, 7, sizeof log_words);
+    log_room = LOG_WORDS;
     result[0] = result[1] = 7;
 }
 
