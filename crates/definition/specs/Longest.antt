@@ -71,5 +71,5 @@ counting n zero = []
 counting n (suc k) = n ∷ counting (suc n) k
 
 -- 0 to 64 words
-abbrev pub lengths : List ℕ
-lengths = counting 0 65
+abbrev pub zeroTo64 : List ℕ
+zeroTo64 = counting 0 65
