@@ -93,7 +93,8 @@ class View:
         if call.number != POLL:
             return []
         recorded = len(call.recording)
-        return [f"      log of {count(len(end.log), 'word')}, at most {longest_log(recorded):,} for a recording of {count(recorded, 'word')}"]
+        most = f"at most {longest_log(recorded):,} for a recording of {count(recorded, 'word')}"
+        return [f"      log of {count(len(end.log), 'word')}, {most}"]
 
     def outcome(self, call, end):
         if end.refusal:
