@@ -21,6 +21,7 @@ cost q (val v bytes) = weigh (wants q)
 abbrev pub paid : Op → Ans → (ℕ → ℕ) → ℕ → ℕ
 paid q x f n = f (n + cost q x) - words q
 
+-- poll's loop alone
 abbrev pub Polls : Loop → Type 0
 Polls (stallLoop t0) = ⊥
 Polls (replyLoop t0) = ⊥

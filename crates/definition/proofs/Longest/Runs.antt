@@ -75,6 +75,7 @@ paused-pays room f q k u =
 
 -- ---- the whole run
 
+-- any outcome but 12
 abbrev pub NotFull : Outcome → Type 0
 NotFull (Outcome.Ok x) = Unit {0}
 NotFull (Outcome.Refused (Refusal.Driver e)) = Unit {0}
