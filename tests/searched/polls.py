@@ -9,8 +9,8 @@ from .states import MARK, UNMARK, leave, poll
 from .table import LENGTHS
 from .tries import Try
 
-UNREADY = status(0xFFFFFFFF)
-FRAME = 14  # the fewest bytes of a frame that is reported
+NOT_READY = status(0xFFFFFFFF)
+SMALLEST_FRAME = 14  # the fewest bytes of a frame that is reported
 FAILED, KEYED = 1, 6  # an event's status
 LEAVING = (DEAUTH, DISASSOC, LINK)  # they end the state Disconnecting
 EVENTS = [(SSID_SET, 0), (SSID_SET, FAILED), (AUTH, FAILED), (SUPPLICANT, KEYED), (SCAN_RESULT, 0), *[(kind, 0) for kind in LEAVING]]
@@ -37,7 +37,7 @@ def dropped_data(rng):
 
 
 def short_data(rng):
-    size = EMPTY + rng.randrange(1, FRAME)
+    size = EMPTY + rng.randrange(1, SMALLEST_FRAME)
     return coming(packet(size, DATA, 0, payload=bytes(size - HEADER)))
 
 
@@ -51,7 +51,7 @@ GOING_ON = [any_event, empty_event, empty_event, empty_event, control, dropped_d
 
 
 def frame(rng):
-    size = EMPTY + rng.randrange(FRAME, 60)
+    size = EMPTY + rng.randrange(SMALLEST_FRAME, 60)
     return coming(packet(size, DATA, 0, payload=bytes(size - HEADER)))
 
 
@@ -100,7 +100,7 @@ def any_interrupt(rng):
 
 def piece(rng, unready):
     if rng.random() < unready:
-        return UNREADY
+        return NOT_READY
     if rng.random() < 0.7:
         return rng.choice(GOING_ON)(rng)
     return rng.choice(ENDING)(rng) + rng.choice(([], tick(rng)))

@@ -2,14 +2,14 @@
 from .points import END, answers_at
 from .search import LEFT_OVER
 
-COUNTS = (1, 8, 12, 32, 36, 40, 44, 48, 52, 120)  # packets up to, around and past an event's type and end
-GOING_ON = 0.9  # how often an answer is chosen after which the poll goes on, where there is one
+SOME_COUNTS = (1, 8, 12, 32, 36, 40, 44, 48, 52, 120)  # packets up to, around and past an event's type and end
+ONWARD = 0.9  # how often an answer is chosen after which the poll goes on, where there is one
 
 
 def some_answer(rng, point):
-    answers = answers_at(point, COUNTS)
+    answers = answers_at(point, SOME_COUNTS)
     onward = [answer for answer in answers if answer.next is not END]
-    return rng.choice(onward if onward and rng.random() < GOING_ON else answers)
+    return rng.choice(onward if onward and rng.random() < ONWARD else answers)
 
 
 def walk(rng, point, length):

@@ -1,4 +1,4 @@
--- What a recorded answer brings: a packet its bytes, any other none.
+-- What a recorded answer brings, a packet its bytes, any other none; and what an operation is given of it.
 use mathlib.Core.Path.{_≡_, refl, sym}
 use mathlib.Core.Bool.{_||_}
 use mathlib.Core.List.{List, []}
@@ -9,7 +9,7 @@ use lib.Dec.{ltb, eqb}
 use lib.ListN.{drop, getD}
 use Rattle.slices.specs.Le.{bytesOf}
 use Rattle.slices.proofs.Pick.{by-pick}
-use Rattle.definition.specs.Bus.{Answer, answer, answerOf, kindOf, lowOf}
+use Rattle.definition.specs.Bus.{Op, wants, asked, Answer, answer, answerOf, kindOf, lowOf, fault, val, Taken, got, wrong, takenBy}
 
 -- by the head's kind and its low bits: an answer that none takes, one of the head's kind that brings no bytes, a packet
 pub answerOf-kinds : (P : Answer → Type 0) (ws : List ℕ) → P (answer 0 0 []) → ((k v : ℕ) → (k ≡ 3 → ⊥) → k ≡ kindOf (getD ws 0 0) → P (answer k v []))
@@ -33,3 +33,10 @@ answerOf-kinds P ws none other packet =
 pub answerOf-by : (P : Answer → Type 0) (ws : List ℕ) → ((k v : ℕ) → (k ≡ 3 → ⊥) → P (answer k v []))
     → (kindOf (getD ws 0 0) ≡ 3 → lowOf (getD ws 0 0) < 65536 → P (answer 3 (lowOf (getD ws 0 0)) (bytesOf (drop 1 ws)))) → P (answerOf ws)
 answerOf-by P ws other packet = answerOf-kinds P ws (other 0 0 (λ v. omega arith)) (λ k v n e. other k v n) packet
+
+-- by the answer's kind: a wrong one, a fault, the operation's own
+pub takenBy-by : (P : Taken → Type 0) (q : Op) (a : Answer) → P wrong → (a .kind ≡ 7 → P (got (fault (a .value)))) → (a .kind ≡ wants q → P (got (val (a .value) (a .bytes)))) → P (takenBy q a)
+unfolding takenBy
+takenBy-by P q a none faulted own =
+    by-pick P (eqb (a .kind) 7) (λ e. by-pick P (eqb (wants q) 4 || eqb (wants q) 5) (λ u. none) (λ u. faulted (eqb-true (a .kind) 7 e)))
+    (λ e. by-pick P (eqb (a .kind) (wants q)) (λ u. by-pick P (asked q (a .value)) (λ v. own (eqb-true (a .kind) (wants q) u)) (λ v. none)) (λ u. none))

@@ -58,7 +58,7 @@ settle-within room (note n p) = settle-within room p
 abbrev Fits : ℕ → Run → Type 0
 Fits room r = length (logOf (r .ops)) ≤ room
 
-after-fits : (room m : ℕ) (s t : List Op) → length (logOf s) + m ≤ room → length (logOf t) ≤ m → length (logOf (s ++ t)) ≤ room
+pub after-fits : (room m : ℕ) (s t : List Op) → length (logOf s) + m ≤ room → length (logOf t) ≤ m → length (logOf (s ++ t)) ≤ room
 after-fits room m s t h g = omega (arith, ap length (logOf-append s t), length-append (logOf s) (logOf t))
 
 unanswered-fits : (e : World) (r : Rest) → Fits (left r) (unanswered e r)

@@ -1,5 +1,5 @@
 -- A tree that pays, run: its log is within what may be logged, and is never full where there is room for that.
-use mathlib.Core.Path.{_≡_, refl, ap}
+use mathlib.Core.Path.{_≡_, refl}
 use mathlib.Core.Bool.{Bool, true, false}
 use mathlib.Core.List.{List, [], _∷_, _++_}
 use Prim.Native.Nat.{ℕ, _+_, _-_, _≤_, _<_}
@@ -15,7 +15,7 @@ use Rattle.definition.specs.Prog.{World, Fin, fine, failed, Turn, again,
 use Rattle.definition.specs.Poll.{Result, first, body}
 use Rattle.definition.specs.Run.{Rest, ended, refused, paused, full, Settled, at, logged, words, turning, settle, Run, afterwards, answered, unanswered, resumed, run}
 use Rattle.definition.specs.Longest.{most}
-use Rattle.definition.proofs.Log.{logOf-append}
+use Rattle.definition.proofs.Log.{after-fits}
 use Rattle.definition.proofs.Longest.Pays.{cost, paid, afterLoop, Pays, FinQ, p-weaken, p-bind, p-attempt}
 use Rattle.definition.proofs.Longest.Words.{weight, total, Costs, taken-costs}
 
@@ -93,10 +93,7 @@ pub record Bounded (room bound : ℕ) (r : Run) : Type 0 where
 after-bounded : (room bound : ℕ) (s : Settled) (r : Run) → logLength (s .ops) ≤ bound → Bounded (room - logLength (s .ops)) (bound - logLength (s .ops)) r
     → Bounded room bound (afterwards s r)
 after-bounded room bound s r h i =
-    record {
-      fits = omega (arith, h, i .fits, ap length (logOf-append (s .ops) (r .ops)), length-append (logOf (s .ops)) (logOf (r .ops)));
-      enough = λ j. i .enough (omega (arith, j));
-    }
+    record { fits = after-fits bound (bound - logLength (s .ops)) (s .ops) (r .ops) (omega (arith, h)) (i .fits); enough = λ j. i .enough (omega (arith, j)) }
 
 -- no answer is left
 unanswered-bounded : (e : World) (room : ℕ) (f : ℕ → ℕ) (m n : ℕ) (r : Rest) → RestPays room f m r → Bounded (room - m) (f n - m) (unanswered e r)

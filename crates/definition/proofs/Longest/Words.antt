@@ -1,18 +1,16 @@
 -- The answers of a recording weigh no more than its words, and an operation takes one of its cost.
 use mathlib.Core.Path.{_≡_, ap, sym}
-use mathlib.Core.Bool.{Bool, true, false, _||_}
+use mathlib.Core.Bool.{_||_}
 use mathlib.Core.List.{List, [], _∷_}
-use Prim.Native.Nat.{ℕ, zero, suc, _+_, _-_, _%_, _≤_}
+use Prim.Native.Nat.{ℕ, zero, suc, _+_, _-_, _≤_}
 use native.Mathlib.Omega.{arith}
-use borrow.Author.Tests.{eqb-true, leb-true}
+use borrow.Author.Tests.{leb-true}
 use lib.Dec.{leb, eqb}
 use lib.ListN.{length, take, getD}
 use lib.Seq.{getD-take}
-use Rattle.slices.specs.Pick.{pick}
-use Rattle.slices.specs.Le.{wordsFor}
 use Rattle.slices.proofs.Pick.{by-pick}
-use Rattle.definition.specs.Bus.{Op, wants, asked, Answer, kindOf, sizeOf, answerOf, answersFrom, Taken, got, wrong, takenBy}
-use Rattle.definition.proofs.Answers.{answerOf-kinds}
+use Rattle.definition.specs.Bus.{Op, Answer, kindOf, sizeOf, answerOf, answersFrom, Taken, got, wrong, takenBy}
+use Rattle.definition.proofs.Answers.{answerOf-kinds, takenBy-by}
 use Rattle.definition.proofs.Longest.Pays.{weigh, cost}
 
 abbrev pub weight : Answer → ℕ
@@ -33,17 +31,11 @@ answer-weight ws =
 
 size-weight : (w : ℕ) → weigh (kindOf w) ≤ sizeOf w
 unfolding sizeOf
-size-weight w = go (eqb (kindOf w) 2)
-  where
-    others : ℕ
-    others = pick (eqb (kindOf w) 3) (2 + wordsFor (w % 65536)) (pick (eqb (kindOf w) 4 || eqb (kindOf w) 5) 3 1)
-
-    one : 1 ≤ others
-    one = by-pick (λ (m : ℕ). 1 ≤ m) (eqb (kindOf w) 3) (λ e. omega arith) (λ e. by-pick (λ (m : ℕ). 1 ≤ m) (eqb (kindOf w) 4 || eqb (kindOf w) 5) (λ u. omega arith) (λ u. omega arith))
-
-    go : (b : Bool) → pick b 2 1 ≤ pick b 2 others
-    go true = omega arith
-    go false = one
+size-weight w =
+    by-pick (λ (m : ℕ). weigh (kindOf w) ≤ m) (eqb (kindOf w) 2) (λ e. rw e (omega arith))
+    (λ e. rw e
+    (by-pick (λ (m : ℕ). 1 ≤ m) (eqb (kindOf w) 3) (λ u. omega arith)
+    (λ u. by-pick (λ (m : ℕ). 1 ≤ m) (eqb (kindOf w) 4 || eqb (kindOf w) 5) (λ v. omega arith) (λ v. omega arith))))
 
 recorded-weight : (w : ℕ) (ws : List ℕ) → weight (answerOf (take (sizeOf w) (w ∷ ws))) ≤ sizeOf w
 recorded-weight w ws =
@@ -67,9 +59,4 @@ Costs q a (got x) = cost q x ≡ weight a
 Costs q a wrong = Unit {0}
 
 pub taken-costs : (q : Op) (a : Answer) → Costs q a (takenBy q a)
-unfolding takenBy
-taken-costs q a =
-    by-pick (Costs q a) (eqb (a .kind) 7)
-    (λ e. by-pick (Costs q a) (eqb (wants q) 4 || eqb (wants q) 5) (λ u. tt) (λ u. ap weigh (sym (eqb-true (a .kind) 7 e))))
-    (λ e. by-pick (Costs q a) (eqb (a .kind) (wants q))
-    (λ u. by-pick (Costs q a) (asked q (a .value)) (λ v. ap weigh (sym (eqb-true (a .kind) (wants q) u))) (λ v. tt)) (λ u. tt))
+taken-costs q a = takenBy-by (Costs q a) q a tt (λ e. ap weigh (sym e)) (λ e. ap weigh (sym e))

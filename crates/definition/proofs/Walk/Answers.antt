@@ -1,12 +1,11 @@
 -- A recording's answers bring bytes.
-use mathlib.Core.Bool.{_||_}
 use mathlib.Core.List.{List, [], _∷_}
 use Prim.Native.Nat.{ℕ, zero, suc, _-_}
-use lib.Dec.{leb, eqb}
+use lib.Dec.{leb}
 use lib.ListN.{length, take, drop}
 use Rattle.slices.proofs.Pick.{by-pick}
-use Rattle.definition.specs.Bus.{Answer, answerOf, answersFrom, sizeOf, Taken, got, wrong, takenBy, Op, wants, asked}
-use Rattle.definition.proofs.Answers.{answerOf-by}
+use Rattle.definition.specs.Bus.{Answer, answerOf, answersFrom, sizeOf, Taken, got, wrong, takenBy, Op}
+use Rattle.definition.proofs.Answers.{answerOf-by, takenBy-by}
 use Rattle.definition.proofs.Bytewise.{Bytewise, bytewise-nil, bytewise-bytesOf}
 use Rattle.definition.proofs.Walk.Keeps.{BytesIn}
 
@@ -29,7 +28,4 @@ BytesTaken (got x) = BytesIn x
 BytesTaken wrong = Unit {0}
 
 pub taken-bytewise : (q : Op) (a : Answer) → Bytewise (a .bytes) → BytesTaken (takenBy q a)
-unfolding takenBy
-taken-bytewise q a h =
-    by-pick BytesTaken (eqb (a .kind) 7) (λ e. by-pick BytesTaken (eqb (wants q) 4 || eqb (wants q) 5) (λ u. tt) (λ u. tt))
-    (λ e. by-pick BytesTaken (eqb (a .kind) (wants q)) (λ u. by-pick BytesTaken (asked q (a .value)) (λ v. h) (λ v. tt)) (λ u. tt))
+taken-bytewise q a h = takenBy-by BytesTaken q a tt (λ e. tt) (λ e. h)
