@@ -43,8 +43,8 @@ enum {
     CYW43_CREDIT = 1, /* the chip's last: (credit - sequence) modulo 256 of it is left; at 0, or while flow is not 0, a packet waits */
     CYW43_FLOW = 2,
     CYW43_ID = 3,
-    CYW43_SCAN_DONE = 5,
-    CYW43_SCANNING = 6,
+    CYW43_SCAN_DONE = 5, /* 1 once a scan is done; the next scan clears it */
+    CYW43_SCANNING = 6, /* 1 while a scan is in progress */
     CYW43_STATE = 21, /* 0 down, 1 connecting, 2 connected, 3 disconnecting */
     CYW43_NETWORKS = 41, /* eight bytes: how many of the records are networks heard */
     CYW43_RECORDS = 49, /* 32 records of 42 bytes: SSID 32, BSSID 6, SSID length, channel, RSSI 2 */
@@ -61,7 +61,9 @@ uint32_t cyw43_fresh(uint8_t *session, size_t session_len);
 /* Brings the interface up. country: two letters in the low 16 bits, the first one lowest; above them the revision, 0 for the default. */
 uint32_t cyw43_init(uint32_t country, CYW43_LENT);
 
-/* Begins a scan; success without an operation while one is in progress. Networks come with polls. */
+/* Begins a scan; success without an operation while one is in progress. Networks come with polls, and so does the scan's end:
+ * CYW43_SCANNING is then 0, and CYW43_SCAN_DONE 1, or 0 where the radio says that the scan failed (any status but 0, success, and 8,
+ * a network). The networks heard stay either way until another scan begins, and that may be at once. */
 uint32_t cyw43_scan(CYW43_LENT);
 
 /* Begins a join. auth 0 open, 1 WPA TKIP, 2 WPA2 AES, 3 WPA2 mixed, 4 WPA3 SAE, 5 WPA3 or WPA2. 4 unless down. */

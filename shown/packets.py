@@ -9,6 +9,7 @@ from .names import GET_VAR, LINK, PARTIAL, SCAN_RESULT, SET_KEY, SET_SSID, SET_V
 from .text import address, count, dots, number, quoted, row, signed, values
 
 KEY_VARIABLE = list(b"sae_password")
+UNKNOWN = -1  # no status
 Ioctl = namedtuple("Ioctl", "command kind interface id status payload_at")
 
 
@@ -91,6 +92,15 @@ def variable_text(payload):
 
 # ---- events
 
+Event = namedtuple("Event", "flags kind status reason")
+
+
+def event_at(data, at):
+    """The numbers that lead an event, if they came."""
+    if len(data) < at + 16:
+        return None
+    return Event(number(data[at + 2 : at + 4], "big"), *(number(data[i : i + 4], "big") for i in (at + 4, at + 8, at + 12)))
+
 
 def event(data, shown, size, header):
     """The event lies 32 bytes into the payload; what it lacks of its 140 bytes is zero."""
@@ -99,15 +109,28 @@ def event(data, shown, size, header):
     if size - header < 48:
         return [f"event of {count(size - header, 'byte')}: ignored, since 48 are needed"]
     at = header + 32
-    if len(data) < at + 16:
+    found = event_at(data, at)
+    if found is None:
         return ["event: its type and status did not come"]
-    flags = number(data[at + 2 : at + 4], "big")
-    kind, status, reason = (number(data[i : i + 4], "big") for i in (at + 4, at + 8, at + 12))
+    flags, kind, status, reason = found
     table = SUPPLICANTS if kind == SUPPLICANT else STATUSES
     line = f"event: type {named(EVENTS, kind)}, status {named(table, status)}, reason {reason}, flags 0x{flags:04x}"
     if kind == LINK:
         return [line + (", link up" if flags & 1 else ", link down")]
     return [line, network((shown[at:] + [0] * 140)[:140])] if (kind, status) == (SCAN_RESULT, PARTIAL) else [line]
+
+
+def scan_status(data):
+    """The status of a scan result; None where a received packet is none, and UNKNOWN where the bytes that tell it did not come."""
+    if len(data) < 12:
+        return UNKNOWN
+    size, header = size_of(data), data[7]
+    if size is None or data[5] & 15 != 1 or size < max(12, header + 48):
+        return None
+    found = event_at(data[:size], header + 32)
+    if found is None:
+        return UNKNOWN
+    return found.status if found.kind == SCAN_RESULT else None
 
 
 def network(event):

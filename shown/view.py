@@ -10,21 +10,32 @@ from . import arguments, bus, names, packets, session
 from .text import blotted, count
 
 KEY_WAIT = 0xA0000000 + 2_000_000  # 2 ms: join waits so long beside each key that it lays
-MAC, GET, POLL = 10, 11, 6
+SCAN, POLL, MAC, GET = 2, 6, 10, 11
+# what a failed scan's status did, by whether a scan was in progress
+FAILED = {
+    True: "scan: failed, so it is over and another may begin; the networks heard stay",
+    False: "scan: failed, but none is in progress: nothing changes",
+    None: "scan: failed, so one in progress is over",
+}
 
 
 class View:
     def __init__(self, calls):
         self.keys = arguments.keys(calls)
         self.laid = False  # a passphrase, by some join
+        self.scanning = False  # whether a scan is in progress; None where that cannot be told
 
     def call(self, number, call, end):
         self.asked = None  # the id of the request that was last written in this call, if it is no key's
         self.replies = []  # the payloads that were shown
         self.places = iter(arguments.key_places(call))
         self.place = None  # of the key in the next written packet
+        self.rolled_back = end.refusal in names.ROLLED_BACK
         head = f"{number}. {names.CALLS[call.number]} {arguments.arguments(call, self.keys)}".rstrip()
-        return [f"{head}  [line {call.line}]", *once(self.operations(call, end)), *self.result(call, end)]
+        lines = [f"{head}  [line {call.line}]", *once(self.operations(call, end)), *self.result(call, end)]
+        if call.number == SCAN and end.refusal == 0 and end.log:
+            self.scanning = True
+        return lines
 
     # ---- operations
 
@@ -74,7 +85,21 @@ class View:
         shown, ioctl = blotted(data, self.keys), packets.ioctl_in(data)
         if ioctl and self.payload_shown(ioctl.id):
             self.replies.append(shown[ioctl.payload_at : packets.size_of(data)])
-        return packets.packet(data, shown, self.payload_shown)
+        return packets.packet(data, shown, self.payload_shown) + self.scanned(packets.scan_status(data))
+
+    def scanned(self, status):
+        """What a scan's status did; a network has its own line."""
+        if status is None or status == names.PARTIAL:
+            return []
+        if status == packets.UNKNOWN:
+            if self.scanning and not self.rolled_back:
+                self.scanning = None
+            return []
+        done = status == names.SUCCESS
+        if self.rolled_back:
+            return [f"scan: {'done' if done else 'failed'}, but the call is rolled back: nothing changes"]
+        before, self.scanning = self.scanning, False
+        return ["scan: done" if done else FAILED[before]]
 
     def payload_shown(self, ident):
         return not self.laid or ident == self.asked
@@ -82,7 +107,7 @@ class View:
     # ---- the result
 
     def result(self, call, end):
-        kept = ", as before the call" if end.refusal in names.ROLLED_BACK else ""
+        kept = ", as before the call" if self.rolled_back else ""
         left = (end.credit - end.sequence) % 256  # of the credit
         credit = f"sequence {end.sequence}, credit {end.credit} ({left} left)"
         state = f"state {names.named(names.STATES, end.state)}, {credit}, flow {end.flow}, id {end.id}{kept}"

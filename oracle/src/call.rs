@@ -8,6 +8,9 @@ pub const NAMES: [&str; 15] = [
     "set", "variable", "up",
 ];
 
+/// The number of a scan.
+pub const SCAN: u32 = 2;
+
 /// Name, zero and data of a variable may have this many bytes.
 const VARIABLE: usize = 2020;
 
@@ -96,7 +99,7 @@ impl<'a> Call<'a> {
             _ => {
                 exactly(0)?;
                 match number {
-                    2 => Some(Call::Scan),
+                    SCAN => Some(Call::Scan),
                     4 => Some(Call::Leave),
                     5 => Some(Call::Abort),
                     6 => Some(Call::Poll),

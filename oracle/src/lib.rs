@@ -4,8 +4,10 @@ extern crate alloc;
 
 pub mod call;
 pub mod caught;
+pub mod compared;
 pub mod oracle;
 pub mod player;
+pub mod rules;
 pub mod state;
 
 pub use oracle::{CallResult, Oracle};

@@ -28,11 +28,19 @@ pub struct CallResult {
     pub used: usize,
     /// The message and place of another panic.
     pub panic: Option<String>,
+    /// The driver's own log lines by their format strings, and how often each was said.
+    pub said: BTreeMap<&'static str, u64>,
+}
+
+impl CallResult {
+    /// Whether state, list and buffer are as at entry, by the tape's 8, 9 and 12.
+    pub fn rolled_back(&self) -> bool {
+        matches!(self.refusal, 8 | 9 | 12)
+    }
 }
 
 pub struct Oracle {
     driver: Driver,
-    lines: Option<BTreeMap<&'static str, u64>>,
 }
 
 impl Default for Oracle {
@@ -64,7 +72,7 @@ fn refusal(error: DevError) -> u32 {
 impl Oracle {
     /// A fresh state and a zeroed buffer.
     pub fn new() -> Self {
-        Self { driver: Driver::new(), lines: None }
+        Self { driver: Driver::new() }
     }
 
     /// One call. For take the output is `out`'s first bytes, as many as its argument says.
@@ -120,11 +128,10 @@ impl Oracle {
         };
 
         let entry = self.driver.keep();
-        tape.lines = self.lines.take();
+        tape.lines = Some(BTreeMap::new());
         tape::load(tape);
         let ended = caught::run(|| self.driver.call(&call, out));
-        let mut tape = tape::take();
-        self.lines = tape.lines.take();
+        let tape = tape::take();
 
         if let Err(Caught::Stopped(_)) = ended {
             self.driver.restore(&entry);
@@ -133,6 +140,7 @@ impl Oracle {
         let mut result = told(ended, tape.fault);
         result.log = tape.log;
         result.used = tape.used;
+        result.said = tape.lines.unwrap_or_default();
         (result, tape.recording)
     }
 
@@ -188,19 +196,9 @@ impl Oracle {
     pub fn records(&self) -> Vec<Record> {
         self.driver.records()
     }
-
-    /// Starts to count the driver's own log lines by their format strings.
-    pub fn count_lines(&mut self) {
-        self.lines.get_or_insert_default();
-    }
-
-    /// The counts so far.
-    pub fn lines(&self) -> Option<&BTreeMap<&'static str, u64>> {
-        self.lines.as_ref()
-    }
 }
 
-/// The result without its log. An error is the fault's own exactly when the last operation
+/// The result without its log and lines. An error is the fault's own exactly when the last operation
 /// was answered by a fault: after an ignored one the driver goes on with another operation.
 fn told(ended: Result<Result<Value, DevError>, Caught>, fault: Option<u8>) -> CallResult {
     let mut result = CallResult::default();

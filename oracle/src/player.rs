@@ -5,6 +5,7 @@ use std::fmt::Write;
 use crate::{
     call::take_length,
     oracle::{CallResult, Oracle, PANIC},
+    rules::rules_for,
     state::{Failure, Record, State},
 };
 
@@ -239,19 +240,28 @@ pub fn number_line(result: &CallResult, oracle: &Oracle, out: &[u8]) -> String {
     text + "\n"
 }
 
-/// All that the player prints for an input. With `capacities`, one word 0xE0000000 + log
-/// capacity stands before each call, as in a session file, and `ANEW` begins another session.
-/// A panic ends the session.
-pub fn play(input: &[u8], print: Print, capacities: bool) -> String {
+/// What is printed of an input, and how it is read.
+#[derive(Clone, Copy, Debug)]
+pub struct Options {
+    pub print: Print,
+    /// A session file: one word 0xE0000000 + log capacity stands before each call, and `ANEW` begins another session.
+    pub session: bool,
+    /// Also `session` where one begins, and after a call `rule` and the request for each rule that it is compared by.
+    pub rules: bool,
+}
+
+/// All that the player prints for an input. A panic ends the session.
+pub fn play(input: &[u8], options: Options) -> String {
     let mut oracle = Oracle::new();
     let mut input = Input(input);
     let mut text = String::new();
     while !input.is_empty() {
         let mut capacity = Some(LOG);
-        if capacities {
+        if options.session {
             let word = input.word();
             if word == Some(ANEW) {
                 oracle = Oracle::new();
+                text += if options.rules { "session\n" } else { "" };
                 continue;
             }
             capacity = word.and_then(|w| w.checked_sub(0xe000_0000)).map(|n| n as usize);
@@ -263,10 +273,13 @@ pub fn play(input: &[u8], print: Print, capacities: bool) -> String {
         let mut out = vec![0; played.output()];
         let result = oracle.call(played.call, &played.args, &played.recording, capacity, &mut out);
         text += &lines(played.call, &result, &oracle);
-        match print {
+        match options.print {
             Print::Plain => {}
             Print::Numbers => text += &number_line(&result, &oracle, &out),
-            _ => text += &full_lines(&result, &oracle, &out, print),
+            print => text += &full_lines(&result, &oracle, &out, print),
+        }
+        for rule in rules_for(&result).filter(|_| options.rules) {
+            writeln!(text, "rule {}", rule.request).unwrap();
         }
         if result.panic.is_some() && !input.0.starts_with(&ANEW.to_le_bytes()) {
             break;

@@ -15,7 +15,7 @@ use Rattle.wlan.specs.declared.ScanRecord.{ScanRecord}
 use Rattle.wlan.specs.declared.State.{State}
 use Rattle.handling.specs.Handle.{stateAfter, handledOf, listHeard}
 use Rattle.definition.specs.Scan.{heard}
-use Rattle.definition.specs.Event.{eventBytes, eventOf, scanResult, linkAfter, scanAfter, listAfter}
+use Rattle.definition.specs.Event.{eventBytes, eventOf, scanResult, linkAfter, scanEnd, scanAfter, listAfter}
 use Rattle.event_state.specs.declared.Numbers.{Numbers}
 use Rattle.event_state.specs.EventState.{numbersOf, eventWith}
 use Rattle.session_bytes.specs.Session.{isSession, sessionIn, withState}
@@ -124,7 +124,7 @@ result-there b offset len h k m =
 
 module _ (b : List ℕ) (e : AsyncEvent) where
   by-network : {d : List ℕ} (t s : ℕ) → t ≡ e .«event_type» → s ≡ e .status → (eqb t 69 && eqb s 8) ≡ true → Holds d (withList b (heard (sessionIn b .list) (e .«scan_result»))) → Holds d (to.afterSession b e)
-  unfolding to.afterSession stateAfter scanAfter linkAfter listAfter
+  unfolding to.afterSession stateAfter scanEnd scanAfter linkAfter listAfter
   by-network t s et es h k =
       let p : e .«event_type» ≡ 69 = sym et ∙ eqb-true t 69 (and-first (eqb t 69) (eqb s 8) h) in
       let q : e .status ≡ 8 = sym es ∙ eqb-true s 8 (and-second (eqb t 69) (eqb s 8) h) in

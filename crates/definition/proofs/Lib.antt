@@ -1,4 +1,5 @@
 pub mod Recordings
+pub mod Scans
 pub mod Table
 pub mod Answers
 pub mod Bytewise

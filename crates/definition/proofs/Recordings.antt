@@ -1,9 +1,15 @@
--- The words of recordings, for sessions that are computed.
+-- Calls and the words of their recordings, for sessions that are computed.
 use mathlib.Core.List.{List, [], _∷_, _++_}
 use Prim.Native.Nat.{ℕ, _+_, _-_, _*_}
-use lib.ListN.{length}
+use lib.ListN.{length, replicate}
 use Rattle.slices.specs.Le.{le16, packed}
 use Rattle.definition.specs.Bus.{Bytes, head}
+use Rattle.definition.specs.Calls.{Call}
+use Rattle.definition.specs.History.{Given}
+
+-- with a log of 64 words, and no output
+abbrev pub given : Call → List ℕ → Given
+given c recording = record { call = c; recording = recording; log = replicate 64 0; output = [] }
 
 -- a packet of the declared size, channel, header length, flow and credit
 abbrev pub packetOf : ℕ → ℕ → ℕ → ℕ → ℕ → Bytes → Bytes
@@ -28,6 +34,10 @@ tick t = head 5 0 ∷ t ∷ 0 ∷ []
 
 abbrev pub done : List ℕ
 done = head 6 0 ∷ []
+
+-- the interrupt says that a packet waits
+abbrev pub interrupted : List ℕ
+interrupted = interrupt 32 ++ done
 
 abbrev pub fault : ℕ → List ℕ
 fault p = head 7 p ∷ []

@@ -118,10 +118,15 @@ linkAfter e l =
 
 -- ---- the scan: 69 ESCAN_RESULT
 
--- 'Only scan status 0 ends a scan.'
+-- 0: the scan is done; 8: it goes on. 'Any scan status other than 0 and 8 now ends a scan too: it clears the progress mark and leaves the
+-- done mark as it was.'
+unfoldable pub scanEnd : ℕ → ScanMarks → ScanMarks
+scanEnd status m =
+    pick (eqb status 0) (record { «scan_done» = true; «scan_in_progress» = false })
+    (pick (eqb status 8) m (record { «scan_done» = m .«scan_done»; «scan_in_progress» = false }))
+
 unfoldable pub scanAfter : AsyncEvent → ScanMarks → ScanMarks
-scanAfter e m =
-    pick (eqb (e .«event_type») 69) (pick (eqb (e .status) 0) (record { «scan_done» = true; «scan_in_progress» = false }) m) m
+scanAfter e m = pick (eqb (e .«event_type») 69) (scanEnd (e .status) m) m
 
 -- status 8: a network was heard
 unfoldable pub listAfter : AsyncEvent → ScanList → ScanList

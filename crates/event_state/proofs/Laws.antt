@@ -1,12 +1,17 @@
--- An event that no connection heeds.
-use mathlib.Core.Path.{_≡_, refl, ap, sym, _∙_}
+-- An event that no connection heeds, and what a scan's status does to the marks.
+use mathlib.Core.Path.{_≡_, refl, ap, sym, subst, _∙_}
 use mathlib.Core.Bool.{true, Bool, false, _||_, true≢false}
+use mathlib.Core.List.{List}
 use Prim.Native.Nat.{ℕ}
-use borrow.Author.Tests.{eqb-true}
+use borrow.Author.Tests.{eqb-true, eq-eqb, ne-eqb}
 use lib.Dec.{eqb}
 use Rattle.wlan.specs.declared.AsyncEvent.{AsyncEvent}
 use Rattle.wlan.specs.declared.Link.{Link}
-use Rattle.definition.specs.Event.{linkAfter}
+use Rattle.wlan.specs.declared.ScanMarks.{ScanMarks}
+use Rattle.definition.specs.Event.{linkAfter, scanEnd}
+use Rattle.definition.proofs.Scans.{ended, scan-over}
+use Rattle.session_bytes.specs.Session.{sessionIn}
+use Rattle.places.specs.Places.{Holds, marksPut}
 use Rattle.event_state.specs.EventState.{isLink}
 
 or-first : (a b : Bool) → (a || b) ≡ false → a ≡ false
@@ -44,3 +49,20 @@ other-than t false e h = refl
 -- 69 is not among them
 pub not-69 : (t : ℕ) → isLink t ≡ true → eqb t 69 ≡ false
 not-69 t h = other-than t (eqb t 69) refl h
+
+-- ---- the session that bytes b hold after a scan's status, by what the code has tested
+
+abbrev pub Marked : List ℕ → List ℕ → ScanMarks → Type 0
+Marked d b m = Holds d (marksPut b m)
+
+module _ (d b : List ℕ) (s : ℕ) where
+  pub scan-done : s ≡ 0 → Marked d b (record { «scan_done» = true; «scan_in_progress» = false }) → Marked d b (scanEnd s (sessionIn b .st .scan))
+  unfolding scanEnd
+  scan-done e h = rw (eq-eqb s 0 e) h
+
+  pub scan-partial : s ≡ 8 → Marked d b (sessionIn b .st .scan) → Marked d b (scanEnd s (sessionIn b .st .scan))
+  unfolding scanEnd
+  scan-partial e h = rw e h
+
+  pub scan-failed : (s ≡ 0 → ⊥) → (s ≡ 8 → ⊥) → (m : ScanMarks) → m ≡ sessionIn b .st .scan → Marked d b (ended m) → Marked d b (scanEnd s (sessionIn b .st .scan))
+  scan-failed not-0 not-8 m e h = subst (Marked d b) (ap ended e ∙ sym (scan-over s (ne-eqb s 0 not-0) (ne-eqb s 8 not-8) (sessionIn b .st .scan))) h

@@ -4,6 +4,7 @@ use handling::link::link_after;
 use places::write::put_link;
 use places::write::put_marks;
 use places_read::link_at;
+use places_read::marks_at;
 use wlan::AsyncEvent;
 use wlan::ScanMarks;
 use wlan::ScanRecord;
@@ -12,10 +13,10 @@ ghost use mathlib.Core.Bool.{true};
 ghost use Prim.Native.Nat.{_+_, _*_, _≤_};
 ghost use lib.ListN.{length, drop};
 ghost use Rattle.wlan.specs.declared.ScanRecord as scanRecord;
-ghost use Rattle.definition.specs.Event.{eventBytes, linkAfter};
+ghost use Rattle.definition.specs.Event.{eventBytes, linkAfter, scanEnd};
 ghost use Rattle.handling.specs.Handle.{stateAfter};
 ghost use Rattle.session_bytes.specs.Session.{isSession, sessionIn, withState};
-ghost use Rattle.places.specs.Places.{Holds, linkPut};
+ghost use Rattle.places.specs.Places.{Holds, linkPut, marksPut};
 ghost use Rattle.event_state.specs.EventState as to;
 
 // What leads an event.
@@ -101,7 +102,35 @@ fn is_link(t: u32) -> bool
     }
 }
 
-// The event's effect on the state: 69 is ESCAN_RESULT, of which status 0 ends the scan.
+// What a scan's status does: 0 ends the scan and it is done, 8 brings a network, any other ends it, done or not as before.
+fn end_scan(s: &mut [u8], status: u32)
+    requires { ⌜ isSession (now s) ≡ true ⌝ }
+    ensures { λ _. ⌜ Holds (now (s .exit)) (marksPut (now (s .entry)) (scanEnd status (sessionIn (now (s .entry)) .st .scan))) ⌝ }
+{
+    if status == 0 {
+        put_marks(
+            s,
+            ScanMarks {
+                scan_done: true,
+                scan_in_progress: false,
+            },
+        );
+        return;
+    }
+    if status == 8 {
+        return;
+    }
+    let before = marks_at(s);
+    put_marks(
+        s,
+        ScanMarks {
+            scan_done: before.scan_done,
+            scan_in_progress: false,
+        },
+    );
+}
+
+// The event's effect on the state: 69 is ESCAN_RESULT.
 pub fn handle_numbers(s: &mut [u8], n: Numbers)
     requires { ⌜ isSession (now s) ≡ true ⌝ }
     ensures { λ _. ⌜ ((x : scanRecord.ScanRecord) → Holds (now (s .exit)) (withState (now (s .entry)) (stateAfter (to.eventWith n x) (sessionIn (now (s .entry)) .st)))) ⌝ }
@@ -111,16 +140,7 @@ pub fn handle_numbers(s: &mut [u8], n: Numbers)
         handle_link(s, n);
         return;
     }
-    if t != 69 {
-        return;
-    }
-    if n.status == 0 {
-        put_marks(
-            s,
-            ScanMarks {
-                scan_done: true,
-                scan_in_progress: false,
-            },
-        );
+    if t == 69 {
+        end_scan(s, n.status);
     }
 }

@@ -2,7 +2,7 @@
 
 use std::{collections::BTreeMap, fmt};
 
-use cyw43_oracle::{CallResult, Oracle, call::NAMES, oracle::PANIC};
+use cyw43_oracle::{CallResult, Oracle, call::NAMES, oracle::PANIC, rules::rules_for};
 use tape::record_words;
 
 use crate::session::Step;
@@ -12,6 +12,8 @@ pub struct Counts {
     pub sessions: u64,
     /// By call and refusal.
     pub refusals: BTreeMap<(u32, u32), u64>,
+    /// Calls that are compared by a rule, by its request.
+    pub rules: BTreeMap<&'static str, u64>,
     /// By what the header says.
     pub packets: BTreeMap<String, u64>,
     /// Faults by place and operation.
@@ -81,6 +83,9 @@ impl Counts {
 
     pub fn add(&mut self, oracle: &Oracle, step: &Step, result: &CallResult) {
         *self.refusals.entry((step.played.call, result.refusal)).or_default() += 1;
+        for rule in rules_for(result) {
+            *self.rules.entry(rule.request).or_default() += 1;
+        }
         let state = oracle.state();
         *self.states.entry(state.state).or_default() += 1;
         let now = [state.packet_tx_seq, state.last_bus_data_credit, state.requested_ioctl_id];
@@ -153,6 +158,7 @@ impl fmt::Display for Counts {
             write!(f, "call {call:2} {:8} {all:8}:", NAMES[call as usize])?;
             numbers(f, of.map(|(&(_, refusal), &n)| (refusal, n)))?;
         }
+        writeln!(f, "rules {:?}", self.rules)?;
         writeln!(f, "poll values {:?}", self.polled)?;
         writeln!(f, "states after a call {:?}", self.states)?;
         writeln!(f, "wraps of sequence, credit, id {:?}", self.wraps)?;

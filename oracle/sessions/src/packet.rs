@@ -26,6 +26,9 @@ pub struct View {
 /// The most that one read can bring.
 pub const MOST: usize = 1536;
 
+/// One scan result in this many that brings no network has a status other than 0 and 8: a session is compared up to it.
+const FAILED_SCAN: u64 = 24;
+
 struct Header {
     size: usize,
     channel: u8,
@@ -33,6 +36,8 @@ struct Header {
 }
 
 const EVENTS: [u32; 17] = [0, 1, 3, 5, 6, 7, 11, 12, 16, 23, 46, 49, 69, 80, 87, 88, 69];
+
+const FAILED_SCANS: [u32; 9] = [1, 2, 3, 4, 7, 9, u32::MAX, 0x0100_0000, 0x0800_0000];
 
 pub fn make(rng: &mut Rng, view: &View) -> Incoming {
     let lies = rng.once_in(view.temper.lying);
@@ -127,7 +132,8 @@ fn event(rng: &mut Rng, crowded: bool, lies: bool) -> (Header, Vec<u8>) {
     let status = match (kind, rng.weighted(&[5, 3])) {
         (69, 0) => 8,
         (69, _) if crowded && rng.percent(90) => 8,
-        (69, _) => rng.pick(&[0, 0, 0, 1, 3, 4, 8, 9]),
+        (69, _) if rng.once_in(FAILED_SCAN) => rng.pick(&FAILED_SCANS),
+        (69, _) => rng.pick(&[0, 0, 0, 8]),
         (46, 0) => 6,
         (_, 0) => 0,
         _ => rng.pick(&[0, 1, 2, 3, 4, 5, 6, 7, 8, 9, 10, 11, u32::MAX, 0x0600_0000]),

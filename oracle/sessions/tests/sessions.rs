@@ -2,9 +2,13 @@
 
 use cyw43_oracle::{
     Oracle,
-    player::{ANEW, Print, play},
+    player::{ANEW, Options, Print, play},
 };
 use sessions::{Session, generate};
+
+fn played(input: &[u8], print: Print, session: bool) -> String {
+    play(input, Options { print, session, rules: false })
+}
 
 #[test]
 fn the_same_seed_gives_the_same_session() {
@@ -39,8 +43,8 @@ fn played_again() {
 fn the_player_takes_them() {
     for seed in 0..200 {
         let session = generate(seed, &mut |_, _, _| {});
-        assert!(!play(&session.input(), Print::Plain, false).ends_with("bad\n"), "seed {seed}");
-        assert!(!play(&session.file(), Print::Hashed, true).ends_with("bad\n"), "seed {seed}");
+        assert!(!played(&session.input(), Print::Plain, false).ends_with("bad\n"), "seed {seed}");
+        assert!(!played(&session.file(), Print::Hashed, true).ends_with("bad\n"), "seed {seed}");
     }
 }
 
@@ -52,7 +56,7 @@ fn one_after_the_other() {
         let file = generate(seed, &mut |_, _, _| {}).file();
         together.extend(ANEW.to_le_bytes());
         together.extend(&file);
-        alone += &play(&file, Print::Numbers, true);
+        alone += &played(&file, Print::Numbers, true);
     }
-    assert!(play(&together, Print::Numbers, true) == alone);
+    assert!(played(&together, Print::Numbers, true) == alone);
 }

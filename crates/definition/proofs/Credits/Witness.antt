@@ -13,12 +13,9 @@ use Rattle.definition.specs.History.{Given, historyOf, next, folded, cou
 use Rattle.definition.specs.Credits.{Tally, tally, count}
 use Rattle.definition.specs.Player.{emptyList}
 use Rattle.definition.specs.Open.{opened}
-use Rattle.definition.proofs.Recordings.{packetOf, interrupt, status, clock, done, fault, waiting, coming, sent}
+use Rattle.definition.proofs.Recordings.{given, packetOf, interrupt, interrupted, status, clock, fault, waiting, coming, sent}
 
 -- ---- calls
-
-abbrev given : Call → List ℕ → Given
-given c recording = record { call = c; recording = recording; log = replicate 64 0; output = [] }
 
 abbrev polling : List ℕ → Given
 polling recording = given Call.wifiPoll recording
@@ -30,10 +27,6 @@ sending n recording = given (Call.sendData 0 (replicate n 0)) recording
 -- a packet that brings a credit and no frame
 abbrev crediting : ℕ → List ℕ
 crediting credit = coming (packetOf 12 2 12 0 credit [])
-
--- the interrupt says that a packet waits
-abbrev interrupted : List ℕ
-interrupted = interrupt 32 ++ done
 
 -- ---- what is computed of a list of calls
 

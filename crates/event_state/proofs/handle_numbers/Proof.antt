@@ -21,23 +21,19 @@ returns : tie.Need-returns
 unfolding stateAfter scanAfter
 returns c = λ x. rw (not-69 (c .before .before .before .before .before .before .before .args .n .«event_type») (sym (c .before .before .before .before .before .is-link .ensures) ∙ c .before .before .before .before .if1 .taken)) (c .before .before .handle-link .ensures x)
 
-returns-2 : tie.Need-returns-2
-unfolding stateAfter scanAfter
-returns-2 c = λ x. rw (unheeded (eventWith (c .before .before .before .before .args .n) x) _ (sym (c .before .before .is-link .ensures) ∙ c .before .if1 .left), ne-eqb _ _ (c .if2 .taken)) (record { known = c .before .before .before .before .pre; back = refl })
-
-put-marks-requires : tie.Need-put-marks-requires
-put-marks-requires c κs = search needs
+end-scan-requires : tie.Need-end-scan-requires
+end-scan-requires c κs = search needs
 
 same-length-2 : tie.Need-same-length-2
 same-length-2 c = search needs
 
+returns-2 : tie.Need-returns-2
+unfolding stateAfter scanAfter
+returns-2 c = λ x. rw (unheeded (eventWith (c .before .before .before .before .before .before .before .before .args .n) x) _ (sym (c .before .before .before .before .before .before .is-link .ensures) ∙ c .before .before .before .before .before .if1 .left), eq-eqb _ _ (c .before .before .before .before .if2 .taken)) (c .before .before .end-scan .ensures)
+
 returns-3 : tie.Need-returns-3
 unfolding stateAfter scanAfter
-returns-3 c = λ x. rw (unheeded (eventWith (c .before .before .before .before .before .before .before .before .before .before .args .n) x) _ (sym (c .before .before .before .before .before .before .before .before .is-link .ensures) ∙ c .before .before .before .before .before .before .before .if1 .left), eq-eqb _ _ (c .before .before .before .before .before .before .if2 .left), eq-eqb _ _ (c .before .before .before .before .if3 .taken)) (c .before .before .put-marks .ensures)
-
-returns-4 : tie.Need-returns-4
-unfolding stateAfter scanAfter
-returns-4 c = λ x. rw (unheeded (eventWith (c .before .before .before .before .before .before .args .n) x) _ (sym (c .before .before .before .before .is-link .ensures) ∙ c .before .before .before .if1 .left), eq-eqb _ _ (c .before .before .if2 .left), ne-eqb _ _ (c .if3 .left)) (record { known = c .before .before .before .before .before .before .pre; back = refl })
+returns-3 c = λ x. rw (unheeded (eventWith (c .before .before .before .before .args .n) x) _ (sym (c .before .before .is-link .ensures) ∙ c .before .if1 .left), ne-eqb _ _ (c .if2 .left)) (record { known = c .before .before .before .before .pre; back = refl })
 
 pub handle-numbers-spec : {M : Type 1} → statement M
 handle-numbers-spec =
@@ -47,8 +43,7 @@ handle-numbers-spec =
     handle-link-requires
     same-length
     returns
-    returns-2
-    put-marks-requires
+    end-scan-requires
     same-length-2
-    returns-3
-    returns-4)
+    returns-2
+    returns-3)

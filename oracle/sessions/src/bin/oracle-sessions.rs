@@ -1,12 +1,13 @@
-//! oracle-sessions --seed S --count N [--write FOLDER] [--together FILE] [--lines]: makes N
-//! sessions, runs them on the oracle twice (answers made as asked for, then played from the
-//! recording) and prints what they reached. FOLDER gets two files for each seed: the session
+//! oracle-sessions --seed S --count N [--write FOLDER] [--together FILE] [--unruled] [--lines]:
+//! makes N sessions, runs them on the oracle twice (answers made as asked for, then played from
+//! the recording) and prints what they reached. FOLDER gets two files for each seed: the session
 //! with its log capacities, and the player's input. FILE gets all sessions, each after the
-//! word that begins a session.
+//! word that begins a session. With --unruled what is written of a session ends before its first
+//! call that is compared by a rule.
 
 use std::{collections::BTreeMap, fs, io::Write, path::PathBuf, process::exit};
 
-use cyw43_oracle::{CallResult, Oracle, player::ANEW};
+use cyw43_oracle::{CallResult, Oracle, player::ANEW, rules::rules_for};
 use sessions::{Session, Step, counts::Counts, generate, shrink};
 
 struct Options {
@@ -14,18 +15,20 @@ struct Options {
     count: u64,
     write: Option<PathBuf>,
     together: Option<PathBuf>,
+    unruled: bool,
     lines: bool,
 }
 
 fn usage() -> ! {
     eprintln!(
-        "usage: oracle-sessions --seed S --count N [--write FOLDER] [--together FILE] [--lines]"
+        "usage: oracle-sessions --seed S --count N [--write FOLDER] [--together FILE] [--unruled] [--lines]"
     );
     exit(2)
 }
 
 fn options() -> Options {
-    let mut options = Options { seed: 1, count: 100, write: None, together: None, lines: false };
+    let mut options =
+        Options { seed: 1, count: 100, write: None, together: None, unruled: false, lines: false };
     let mut args = std::env::args().skip(1);
     while let Some(arg) = args.next() {
         let mut value = || args.next().unwrap_or_else(|| usage());
@@ -34,6 +37,7 @@ fn options() -> Options {
             "--count" => options.count = value().parse().unwrap_or_else(|_| usage()),
             "--write" => options.write = Some(value().into()),
             "--together" => options.together = Some(value().into()),
+            "--unruled" => options.unruled = true,
             "--lines" => options.lines = true,
             _ => usage(),
         }
@@ -63,15 +67,12 @@ fn main() {
         counts.begin();
         let mut results = Vec::new();
         let mut oracle = Oracle::new();
-        if options.lines {
-            oracle.count_lines();
-        }
         let mut after = |oracle: &Oracle, step: &Step, result: &CallResult| {
             counts.add(oracle, step, result);
             results.push(result.clone());
         };
-        let session = generate::generate_on(&mut oracle, seed, &mut after);
-        for (line, n) in oracle.lines().into_iter().flatten() {
+        let mut session = generate::generate_on(&mut oracle, seed, &mut after);
+        for (line, n) in results.iter().flat_map(|r| &r.said).filter(|_| options.lines) {
             *lines.entry(line).or_default() += n;
         }
 
@@ -82,6 +83,10 @@ fn main() {
 
         if let Some(message) = results.last().and_then(|r| r.panic.clone()) {
             panics.entry(message).or_insert((0, seed, session.clone())).0 += 1;
+        }
+        let ruled = results.iter().position(|result| rules_for(result).next().is_some());
+        if let Some(ruled) = ruled.filter(|_| options.unruled) {
+            session.steps.truncate(ruled);
         }
         if let Some(folder) = &options.write {
             fs::create_dir_all(folder).expect("folder");
