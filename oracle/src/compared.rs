@@ -17,6 +17,16 @@ struct Block<'a> {
     numbers: &'a str,
 }
 
+impl<'a> Block<'a> {
+    fn call(&self) -> u32 {
+        self.first.split(' ').next().and_then(|n| n.parse().ok()).unwrap_or(0)
+    }
+
+    fn numbers(&self) -> Vec<&'a str> {
+        self.numbers.split(' ').collect()
+    }
+}
+
 /// A text, read from its front.
 struct Text<'a> {
     rest: &'a str,
@@ -65,10 +75,6 @@ pub struct Compared {
     pub different: Vec<(u64, u64, String)>,
 }
 
-fn numbers(line: &str) -> Vec<u64> {
-    line.split_whitespace().filter_map(|n| n.parse().ok()).collect()
-}
-
 /// What differs in a call that is compared by these rules.
 fn difference(ours: &Block, rust: &Block, rules: &[&Rule]) -> Option<String> {
     let told = |what: &str, ours: &str, rust: &str| {
@@ -82,17 +88,17 @@ fn difference(ours: &Block, rust: &Block, rules: &[&Rule]) -> Option<String> {
         let (a, b) = words.find(|(a, b)| a != b).unwrap_or(("cut", "whole"));
         return told("its log", a, b);
     }
-    let (a, b) = (numbers(ours.numbers), numbers(rust.numbers));
+    let (a, b) = (ours.numbers(), rust.numbers());
     if a.len() != b.len() {
         return told("how many numbers", &a.len().to_string(), &b.len().to_string());
     }
     let is_left_out = |place: &usize| rules.iter().any(|rule| rule.left_out.contains(place));
     if let Some(place) = (0..a.len()).filter(|n| !is_left_out(n)).find(|&n| a[n] != b[n]) {
-        return told(&format!("number {place}"), &a[place].to_string(), &b[place].to_string());
+        return told(&format!("number {place}"), a[place], b[place]);
     }
-    let call = ours.first.split(' ').next().and_then(|n| n.parse().ok()).unwrap_or(0);
-    let wrong = rules.iter().find(|rule| !a.is_empty() && !(rule.instead)(call, &a))?;
-    Some(format!("what {} says of number {:?}", wrong.request, wrong.left_out))
+    let a: Vec<u64> = a.iter().filter_map(|n| n.parse().ok()).collect();
+    let wrong = rules.iter().find(|rule| !a.is_empty() && !(rule.instead)(ours.call(), &a))?;
+    Some(format!("what {} says of {:?}", wrong.request, wrong.left_out))
 }
 
 /// Compares two texts of the same sessions. The Rust's has the lines of `--rules`; `numbers`: both have those of `--numbers`.
@@ -123,17 +129,13 @@ pub fn compare(ours: &str, rust: &str, numbers: bool) -> Compared {
         for rule in &rules {
             let used = found.rules.entry(rule.request).or_default();
             used.calls += 1;
-            used.different += u64::from(here.numbers != there.numbers);
+            let (a, b) = (here.numbers(), there.numbers());
+            used.different += u64::from(rule.left_out.iter().any(|&n| a.get(n) != b.get(n)));
         }
         over = rules.iter().any(|rule| rule.ends);
         if let Some(what) = difference(&here, &there, &rules) {
-            let name =
-                there.first.split(' ').next().and_then(|n| NAMES.get(n.parse::<usize>().ok()?));
-            found.different.push((
-                found.sessions,
-                call,
-                format!("{}, {what}", name.unwrap_or(&"no call")),
-            ));
+            let name = NAMES.get(there.call() as usize).unwrap_or(&"no call");
+            found.different.push((found.sessions, call, format!("{name}, {what}")));
             over = true;
         }
     }

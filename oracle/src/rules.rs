@@ -28,7 +28,7 @@ pub static RULES: [Rule; 1] = [
         request: "P2",
         when: |result| result.said.contains_key(SCAN_FAILED) && !result.rolled_back(),
         left_out: &[SCAN_IN_PROGRESS],
-        instead: |call, numbers| call == call::SCAN || numbers[SCAN_IN_PROGRESS] == 0,
+        instead: |call, numbers| call == call::SCAN || numbers.get(SCAN_IN_PROGRESS) == Some(&0),
         ends: true,
     },
 ];

@@ -1,6 +1,6 @@
 -- What a scan's statuses do: a session that the checker computes from the definition, and laws of every such event.
 use mathlib.Core.Path.{_≡_, refl, ap}
-use mathlib.Core.Bool.{Bool, true, false}
+use mathlib.Core.Bool.{Bool, false}
 use mathlib.Core.List.{List, [], _∷_, _++_}
 use Prim.Native.Nat.{ℕ, _+_, _*_}
 use lib.Dec.{eqb}
@@ -39,24 +39,12 @@ result n s = coming (packetOf (12 + n) 1 12 0 9 (take n (replicate 36 0 ++ (0 �
 abbrev hears : List ℕ → Bytes → Given
 hears before s = given Call.wifiPoll (before ++ (result 48 s ++ status 0))
 
-abbrev success : Bytes
-success = 0 ∷ 0 ∷ 0 ∷ 0 ∷ []
+-- a status' four bytes, of which all count: high 1 is not 0, and high 8 not 8
+abbrev low : ℕ → Bytes
+low n = 0 ∷ 0 ∷ 0 ∷ n ∷ []
 
-abbrev failed : Bytes
-failed = 0 ∷ 0 ∷ 0 ∷ 1 ∷ []
-
-abbrev aborted : Bytes
-aborted = 0 ∷ 0 ∷ 0 ∷ 4 ∷ []
-
-abbrev partial : Bytes
-partial = 0 ∷ 0 ∷ 0 ∷ 8 ∷ []
-
--- all four bytes count: 0x01000000 is not 0, and 0x08000000 not 8
-abbrev highOne : Bytes
-highOne = 1 ∷ 0 ∷ 0 ∷ 0 ∷ []
-
-abbrev highEight : Bytes
-highEight = 8 ∷ 0 ∷ 0 ∷ 0 ∷ []
+abbrev high : ℕ → Bytes
+high n = n ∷ 0 ∷ 0 ∷ 0 ∷ []
 
 -- ---- what is computed of them
 
@@ -77,21 +65,21 @@ session : List Given
 session =
     -- a network is heard, and the scan fails: the network stays, and no scan is done
     scans 1
-    ∷ hears [] partial
-    ∷ hears interrupted failed
+    ∷ hears [] (low 8)
+    ∷ hears interrupted (low 1)
     -- another scan starts, and has its operations; one while it is in progress has none
     ∷ scans 2
     ∷ given Call.wifiScan []
     -- it is done; a status that comes later leaves that
-    ∷ hears [] success
-    ∷ hears interrupted aborted
+    ∷ hears [] (low 0)
+    ∷ hears interrupted (low 4)
     -- 47 bytes of such an event change nothing, nor does one in a poll that is rolled back
     ∷ scans 3
-    ∷ given Call.wifiPoll (result 47 failed ++ status 0)
-    ∷ given Call.wifiPoll (interrupted ++ result 48 failed)
-    ∷ hears interrupted highOne
+    ∷ given Call.wifiPoll (result 47 (low 1) ++ status 0)
+    ∷ given Call.wifiPoll (interrupted ++ result 48 (low 1))
+    ∷ hears interrupted (high 1)
     ∷ scans 4
-    ∷ hears [] highEight
+    ∷ hears [] (high 8)
     ∷ []
 
 scan-session : rows session (world fresh (replicate 2048 0) emptyList) ≡ (0 ∷ 36 ∷ 0 ∷ 1 ∷ 0 ∷ [])
