@@ -4,6 +4,7 @@ use std::{collections::BTreeMap, fmt};
 
 use crate::{
     call::NAMES,
+    player::number_line,
     rules::{Rule, rule_of},
 };
 
@@ -17,13 +18,13 @@ struct Block<'a> {
     numbers: &'a str,
 }
 
-impl<'a> Block<'a> {
+impl Block<'_> {
     fn call(&self) -> u32 {
         self.first.split(' ').next().and_then(|n| n.parse().ok()).unwrap_or(0)
     }
 
-    fn numbers(&self) -> Vec<&'a str> {
-        self.numbers.split(' ').collect()
+    fn numbers(&self) -> Vec<u64> {
+        self.numbers.split_whitespace().filter_map(|n| n.parse().ok()).collect()
     }
 }
 
@@ -36,8 +37,8 @@ struct Text<'a> {
 impl<'a> Text<'a> {
     /// The next n lines.
     fn lines(&mut self, n: usize) -> &'a str {
-        let ends = self.rest.bytes().enumerate().filter(|&(_, b)| b == b'\n').map(|(at, _)| at + 1);
-        let end = if n == 0 { 0 } else { ends.clone().nth(n - 1).unwrap_or(self.rest.len()) };
+        let mut ends = self.rest.match_indices('\n').map(|(at, _)| at + 1);
+        let end = if n == 0 { 0 } else { ends.nth(n - 1).unwrap_or(self.rest.len()) };
         let (lines, rest) = self.rest.split_at(end);
         self.rest = rest;
         lines
@@ -88,17 +89,18 @@ fn difference(ours: &Block, rust: &Block, rules: &[&Rule]) -> Option<String> {
         let (a, b) = words.find(|(a, b)| a != b).unwrap_or(("cut", "whole"));
         return told("its log", a, b);
     }
-    let (a, b) = (ours.numbers(), rust.numbers());
-    if a.len() != b.len() {
-        return told("how many numbers", &a.len().to_string(), &b.len().to_string());
+    let mut wanted = rust.numbers();
+    rules.iter().for_each(|rule| rule.follow(rust.call(), &mut wanted));
+    let plain = ours.numbers.is_empty() && rust.numbers.is_empty();
+    if plain || ours.numbers == number_line(&wanted) {
+        return None;
     }
-    let is_left_out = |place: &usize| rules.iter().any(|rule| rule.left_out.contains(place));
-    if let Some(place) = (0..a.len()).filter(|n| !is_left_out(n)).find(|&n| a[n] != b[n]) {
-        return told(&format!("number {place}"), a[place], b[place]);
-    }
-    let a: Vec<u64> = a.iter().filter_map(|n| n.parse().ok()).collect();
-    let wrong = rules.iter().find(|rule| !a.is_empty() && !(rule.instead)(ours.call(), &a))?;
-    Some(format!("what {} says of {:?}", wrong.request, wrong.left_out))
+    let found = ours.numbers();
+    let place = (0..wanted.len()).find(|&n| found.get(n) != Some(&wanted[n]));
+    let rule = rules.iter().find(|rule| place.is_some_and(|n| rule.left_out.contains(&n)));
+    let (place, by) = (place.unwrap_or(wanted.len()), rule.map_or("the Rust", |r| r.request));
+    let shown = |numbers: &[u64]| numbers.get(place).map_or("none".into(), u64::to_string);
+    Some(format!("number {place}: {} here, {} by {by}", shown(&found), shown(&wanted)))
 }
 
 /// Compares two texts of the same sessions. The Rust's has the lines of `--rules`; `numbers`: both have those of `--numbers`.

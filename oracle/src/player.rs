@@ -223,9 +223,9 @@ fn record_bytes(r: &Record) -> Vec<u8> {
     [&r.ssid[..], &r.bssid, &[len, channel], &r.rssi.to_le_bytes()].concat()
 }
 
-/// The further line of `--numbers`: the state's bytes; the failure reported; count of the scan
-/// list and sum of its records' bytes; sums of work buffer and output.
-pub fn number_line(result: &CallResult, oracle: &Oracle, out: &[u8]) -> String {
+/// The numbers of `--numbers`: the state's bytes; the failure reported; count of the scan list and
+/// sum of its records' bytes; sums of work buffer and output.
+fn numbers(result: &CallResult, oracle: &Oracle, out: &[u8]) -> Vec<u64> {
     let mut numbers: Vec<u64> = state_bytes(&oracle.state()).into_iter().map(u64::from).collect();
     let (tag, status, reason) = failure_parts(result.failure);
     numbers.extend([u64::from(tag), status.into(), reason.into()]);
@@ -233,11 +233,22 @@ pub fn number_line(result: &CallResult, oracle: &Oracle, out: &[u8]) -> String {
     numbers.push(records.len() as u64);
     let bytes: Vec<u8> = records.iter().flat_map(record_bytes).collect();
     numbers.extend([sum(&bytes), sum(oracle.buffer()), sum(out)]);
-    let mut text = String::new();
-    for n in numbers {
-        write!(text, "{n} ").unwrap();
-    }
-    text + "\n"
+    numbers
+}
+
+/// The further line of `--numbers`.
+pub fn number_line(numbers: &[u64]) -> String {
+    numbers.iter().fold(String::new(), |text, n| text + &format!("{n} ")) + "\n"
+}
+
+/// What becomes of the rules that a call is compared by.
+#[derive(Clone, Copy, Debug, PartialEq, Eq)]
+pub enum Rules {
+    Unsaid,
+    /// `session` where one begins, and after a call `rule` and the request of each.
+    Named,
+    /// The numbers are those of the requests, where they are not the Rust's.
+    Followed,
 }
 
 /// What is printed of an input, and how it is read.
@@ -246,8 +257,7 @@ pub struct Options {
     pub print: Print,
     /// A session file: one word 0xE0000000 + log capacity stands before each call, and `ANEW` begins another session.
     pub session: bool,
-    /// Also `session` where one begins, and after a call `rule` and the request for each rule that it is compared by.
-    pub rules: bool,
+    pub rules: Rules,
 }
 
 /// All that the player prints for an input. A panic ends the session.
@@ -261,7 +271,7 @@ pub fn play(input: &[u8], options: Options) -> String {
             let word = input.word();
             if word == Some(ANEW) {
                 oracle = Oracle::new();
-                text += if options.rules { "session\n" } else { "" };
+                text += if options.rules == Rules::Named { "session\n" } else { "" };
                 continue;
             }
             capacity = word.and_then(|w| w.checked_sub(0xe000_0000)).map(|n| n as usize);
@@ -275,10 +285,16 @@ pub fn play(input: &[u8], options: Options) -> String {
         text += &lines(played.call, &result, &oracle);
         match options.print {
             Print::Plain => {}
-            Print::Numbers => text += &number_line(&result, &oracle, &out),
+            Print::Numbers => {
+                let mut numbers = numbers(&result, &oracle, &out);
+                if options.rules == Rules::Followed {
+                    rules_for(&result).for_each(|rule| rule.follow(played.call, &mut numbers));
+                }
+                text += &number_line(&numbers);
+            }
             print => text += &full_lines(&result, &oracle, &out, print),
         }
-        for rule in rules_for(&result).filter(|_| options.rules) {
+        for rule in rules_for(&result).filter(|_| options.rules == Rules::Named) {
             writeln!(text, "rule {}", rule.request).unwrap();
         }
         if result.panic.is_some() && !input.0.starts_with(&ANEW.to_le_bytes()) {

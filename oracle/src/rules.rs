@@ -15,20 +15,31 @@ pub struct Rule {
     pub when: fn(&CallResult) -> bool,
     /// Which of the call's numbers are left out,
     pub left_out: &'static [usize],
-    /// and what the request says of them instead: whether the port's call, of this kind, has the right ones.
-    pub instead: fn(u32, &[u64]) -> bool,
+    /// and what each is by the request instead, from the call and the Rust's number.
+    pub instead: fn(u32, u64) -> u64,
     /// Whether the call is the last of its session that is compared.
     pub ends: bool,
 }
 
+impl Rule {
+    /// Puts what the request says into the Rust's numbers of a call, if there are any.
+    pub fn follow(&self, call: u32, numbers: &mut [u64]) {
+        for &place in self.left_out {
+            if let Some(n) = numbers.get_mut(place) {
+                *n = (self.instead)(call, *n);
+            }
+        }
+    }
+}
+
 pub static RULES: [Rule; 1] = [
     // 'Any scan status other than 0 and 8 now ends a scan too: it clears the progress mark [...]. Against the Rust, sessions are
-    // compared up to the first such status.' A scan that is answered after it sets the mark again.
+    // compared up to the first such status.' A scan hears one only where the mark is 0, and sets it when it is answered, as in the Rust.
     Rule {
         request: "P2",
         when: |result| result.said.contains_key(SCAN_FAILED) && !result.rolled_back(),
         left_out: &[SCAN_IN_PROGRESS],
-        instead: |call, numbers| call == call::SCAN || numbers.get(SCAN_IN_PROGRESS) == Some(&0),
+        instead: |call, rust| if call == call::SCAN { rust } else { 0 },
         ends: true,
     },
 ];

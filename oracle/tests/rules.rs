@@ -5,7 +5,7 @@ mod common;
 use common::{brings, event, exchange, none};
 use cyw43_oracle::{
     compared::compare,
-    player::{ANEW, LOG, Options, Played, Print, play},
+    player::{ANEW, LOG, Options, Played, Print, Rules, play},
 };
 
 const SCAN: u32 = 2;
@@ -28,12 +28,16 @@ fn heard(length: u16, status: u32) -> Played {
 
 /// The sessions' text, as the Rust leaves it.
 fn rust(sessions: &[&[Played]]) -> String {
+    text(sessions, Rules::Named)
+}
+
+fn text(sessions: &[&[Played]], rules: Rules) -> String {
     let words = sessions.iter().flat_map(|calls| {
         let calls = calls.iter().flat_map(|c| [vec![0xe000_0000 + LOG as u32], c.words()].concat());
         [ANEW].into_iter().chain(calls)
     });
     let input: Vec<u8> = words.flat_map(u32::to_le_bytes).collect();
-    play(&input, Options { print: Print::Numbers, session: true, rules: true })
+    play(&input, Options { print: Print::Numbers, session: true, rules })
 }
 
 /// The text of a port that leaves the same, but for numbers of some calls: (call from 0 on, place, number).
@@ -94,6 +98,16 @@ fn the_mark_is_left_out() {
     assert_eq!((found.rules["P2"].calls, found.rules["P2"].different), (1, 1));
 }
 
+/// A port that leaves what the requests say.
+#[test]
+fn followed() {
+    let calls = [scan(), marked(heard(48, 8)), heard(48, 1)];
+    let (rust, port) = (rust(&[&calls]), text(&[&calls], Rules::Followed));
+    let found = compare(&port, &rust, true);
+    assert!(found.different.is_empty(), "{found}");
+    assert_eq!((found.calls, found.rules["P2"].different), (3, 1));
+}
+
 #[test]
 fn what_is_said_instead() {
     let rust = failing();
@@ -111,6 +125,7 @@ fn a_scan_sets_it_again() {
     let rust = rust(&[&[call(SCAN, recording)]]);
     assert!(rust.starts_with("session\n2 0 0 ") && rust.ends_with("rule P2\n"), "{rust}");
     assert!(compare(&port(&rust, &[]), &rust, true).different.is_empty());
+    assert_eq!(compare(&port(&rust, &[(0, IN_PROGRESS, 0)]), &rust, true).different.len(), 1);
 }
 
 #[test]

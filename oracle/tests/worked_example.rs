@@ -1,6 +1,6 @@
 //! The worked example of document 01, and what the player calls bad.
 
-use cyw43_oracle::player::{Options, Print, play};
+use cyw43_oracle::player::{Options, Print, Rules, play};
 
 const INPUT: &str = "F000000E 0 16 20000000 20 60000000 40000000 0 0 40000000 0 0 10000020 \
     60000000 20000000 3900 3000001C 0 FFE3001C 0C000000 200 2 0 10002 0";
@@ -14,7 +14,7 @@ fn bytes(hex: &str) -> Vec<u8> {
 }
 
 fn plain(input: &[u8]) -> String {
-    play(input, Options { print: Print::Plain, session: false, rules: false })
+    play(input, Options { print: Print::Plain, session: false, rules: Rules::Unsaid })
 }
 
 #[test]

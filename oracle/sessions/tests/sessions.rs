@@ -2,12 +2,12 @@
 
 use cyw43_oracle::{
     Oracle,
-    player::{ANEW, Options, Print, play},
+    player::{ANEW, Options, Print, Rules, play},
 };
 use sessions::{Session, generate};
 
 fn played(input: &[u8], print: Print, session: bool) -> String {
-    play(input, Options { print, session, rules: false })
+    play(input, Options { print, session, rules: Rules::Unsaid })
 }
 
 #[test]

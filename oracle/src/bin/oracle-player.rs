@@ -1,21 +1,23 @@
-//! oracle-player [--full | --hash | --numbers] [--session] [--rules]: plays standard input on the Rust driver.
+//! oracle-player [--full | --hash | --numbers] [--session] [--rules | --instead]: plays standard input on
+//! the Rust driver.
 
 use std::io::{Read, Write, stdin, stdout};
 
-use cyw43_oracle::player::{Options, Print, play};
+use cyw43_oracle::player::{Options, Print, Rules, play};
 
 fn main() {
-    let mut options = Options { print: Print::Plain, session: false, rules: false };
+    let mut options = Options { print: Print::Plain, session: false, rules: Rules::Unsaid };
     for arg in std::env::args().skip(1) {
         match arg.as_str() {
             "--full" => options.print = Print::Full,
             "--hash" => options.print = Print::Hashed,
             "--numbers" => options.print = Print::Numbers,
             "--session" => options.session = true,
-            "--rules" => options.rules = true,
+            "--rules" => options.rules = Rules::Named,
+            "--instead" => options.rules = Rules::Followed,
             _ => {
                 eprintln!(
-                    "usage: oracle-player [--full | --hash | --numbers] [--session] [--rules] < input"
+                    "usage: oracle-player [--full | --hash | --numbers] [--session] [--rules | --instead] < input"
                 );
                 std::process::exit(2);
             }

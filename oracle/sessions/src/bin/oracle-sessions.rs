@@ -1,9 +1,9 @@
-//! oracle-sessions --seed S --count N [--write FOLDER] [--together FILE] [--unruled] [--lines]:
+//! oracle-sessions --seed S --count N [--write FOLDER] [--together FILE] [--compared] [--lines]:
 //! makes N sessions, runs them on the oracle twice (answers made as asked for, then played from
 //! the recording) and prints what they reached. FOLDER gets two files for each seed: the session
 //! with its log capacities, and the player's input. FILE gets all sessions, each after the
-//! word that begins a session. With --unruled what is written of a session ends before its first
-//! call that is compared by a rule.
+//! word that begins a session. With --compared what is written of a session ends with the last call
+//! that is compared.
 
 use std::{collections::BTreeMap, fs, io::Write, path::PathBuf, process::exit};
 
@@ -15,20 +15,20 @@ struct Options {
     count: u64,
     write: Option<PathBuf>,
     together: Option<PathBuf>,
-    unruled: bool,
+    compared: bool,
     lines: bool,
 }
 
 fn usage() -> ! {
     eprintln!(
-        "usage: oracle-sessions --seed S --count N [--write FOLDER] [--together FILE] [--unruled] [--lines]"
+        "usage: oracle-sessions --seed S --count N [--write FOLDER] [--together FILE] [--compared] [--lines]"
     );
     exit(2)
 }
 
 fn options() -> Options {
     let mut options =
-        Options { seed: 1, count: 100, write: None, together: None, unruled: false, lines: false };
+        Options { seed: 1, count: 100, write: None, together: None, compared: false, lines: false };
     let mut args = std::env::args().skip(1);
     while let Some(arg) = args.next() {
         let mut value = || args.next().unwrap_or_else(|| usage());
@@ -37,7 +37,7 @@ fn options() -> Options {
             "--count" => options.count = value().parse().unwrap_or_else(|_| usage()),
             "--write" => options.write = Some(value().into()),
             "--together" => options.together = Some(value().into()),
-            "--unruled" => options.unruled = true,
+            "--compared" => options.compared = true,
             "--lines" => options.lines = true,
             _ => usage(),
         }
@@ -84,9 +84,9 @@ fn main() {
         if let Some(message) = results.last().and_then(|r| r.panic.clone()) {
             panics.entry(message).or_insert((0, seed, session.clone())).0 += 1;
         }
-        let ruled = results.iter().position(|result| rules_for(result).next().is_some());
-        if let Some(ruled) = ruled.filter(|_| options.unruled) {
-            session.steps.truncate(ruled);
+        let last = results.iter().position(|result| rules_for(result).any(|rule| rule.ends));
+        if let Some(last) = last.filter(|_| options.compared) {
+            session.steps.truncate(last + 1);
         }
         if let Some(folder) = &options.write {
             fs::create_dir_all(folder).expect("folder");
