@@ -43,7 +43,7 @@ enum {
     CYW43_CREDIT = 1, /* the chip's last: (credit - sequence) modulo 256 of it is left; at 0, or while flow is not 0, a packet waits */
     CYW43_FLOW = 2,
     CYW43_ID = 3,
-    CYW43_SCAN_DONE = 5, /* 1 once a scan is done; the next scan clears it */
+    CYW43_SCAN_DONE = 5, /* 1 once a scan is done, until another begins */
     CYW43_SCANNING = 6, /* 1 while a scan is in progress */
     CYW43_STATE = 21, /* 0 down, 1 connecting, 2 connected, 3 disconnecting */
     CYW43_NETWORKS = 41, /* eight bytes: how many of the records are networks heard */

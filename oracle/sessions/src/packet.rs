@@ -34,7 +34,7 @@ struct Header {
 
 const EVENTS: [u32; 17] = [0, 1, 3, 5, 6, 7, 11, 12, 16, 23, 46, 49, 69, 80, 87, 88, 69];
 
-/// One scan result in this many that brings no network has another status than 0 and 8: a session is compared up to it.
+/// One scan result in this many, of those that are not chosen to bring a network, has another status than 0 and 8: a session is compared up to it.
 const FAILED_SCAN: u64 = 24;
 const FAILED_SCANS: [u32; 9] = [1, 2, 3, 4, 7, 9, u32::MAX, 0x0100_0000, 0x0800_0000];
 
