@@ -1,4 +1,4 @@
-//! Links the proved driver: the static library that `rt staticlib cyw43_c` writes.
+//! Links the proved driver and the read routines: the static libraries that `rt staticlib` writes of `cyw43_c` and `reads_c`.
 
 use std::{env, path::PathBuf};
 
@@ -9,7 +9,9 @@ fn main() {
         Err(_) => here.join("../../target/staticlib"),
     };
     println!("cargo:rerun-if-env-changed=CYW43_STATICLIB");
-    println!("cargo:rerun-if-changed={}", folder.join("libcyw43_c.a").display());
     println!("cargo:rustc-link-search=native={}", folder.display());
-    println!("cargo:rustc-link-lib=static=cyw43_c");
+    for library in ["cyw43_c", "reads_c"] {
+        println!("cargo:rerun-if-changed={}", folder.join(format!("lib{library}.a")).display());
+        println!("cargo:rustc-link-lib=static={library}");
+    }
 }

@@ -1,9 +1,11 @@
 //! bench [--short] [INPUT...]: times the proved driver and the unchanged Rust on the same calls and recordings, and measures how
-//! deep a call of the proved driver goes into the stack, on the same calls and on those of the player's inputs.
+//! deep a call of the proved driver goes into the stack, on the same calls and on those of the player's inputs. Times the read
+//! routine and the one before it, alone.
 
 mod cases;
 mod port;
 mod radio;
+mod reads;
 mod stack;
 
 use std::{
@@ -186,6 +188,9 @@ fn main() {
             t.most
         );
     }
+
+    reads::compare();
+    reads::print(short);
 
     let deepest = stack::on_known_stack(|| depths(&inputs));
     if deepest > DEEPEST {
