@@ -23,13 +23,13 @@ fn is_transfer(n: u32, words: &[u32]) -> bool
 pub extern "C" fn read_one_pass(n: u32, words: &[u32], buf: &mut [u8]) -> u32
     ensures answer { λ r. ⌜ r ≡ pick (isTransfer n (now (words .entry))) 0 1 ⌝ }
     ensures laid { λ _. ⌜ now (buf .exit) ≡ pick (isTransfer n (now (words .entry))) (def.landed n (bytesOf (now (words .entry))) (now (buf .entry))) (now (buf .entry)) ⌝ }
-    ensures bytes { λ r. ⌜ r ≡ 0 → (i : ℕ) → i < length (now (buf .entry)) → getD (now (buf .exit)) i 0 ≡ byteAfter n (bytesOf (now (words .entry))) (now (buf .entry)) i ⌝ }
+    ensures bytes { λ r. ⌜ (r ≡ 0 → (i : ℕ) → i < length (now (buf .entry)) → getD (now (buf .exit)) i 0 ≡ byteAfter n (bytesOf (now (words .entry))) (now (buf .entry)) i) ⌝ }
 {
-    if !is_transfer(n, words) {
-        return 1;
+    if is_transfer(n, words) {
+        bus::read::read_bytes(buf, words, n as usize);
+        return 0;
     }
-    bus::read::read_bytes(buf, words, n as usize);
-    0
+    1
 }
 
 // The one before it.
@@ -38,29 +38,29 @@ pub extern "C" fn read_two_passes(n: u32, words: &[u32], buf: &mut [u8]) -> u32
     ensures answer { λ r. ⌜ r ≡ pick (isTransfer n (now (words .entry))) 0 1 ⌝ }
     ensures laid { λ _. ⌜ now (buf .exit) ≡ pick (isTransfer n (now (words .entry))) (laidTwice n (now (words .entry)) (now (buf .entry))) (now (buf .entry)) ⌝ }
 {
-    if !is_transfer(n, words) {
-        return 1;
+    if is_transfer(n, words) {
+        two_pass_read::read_bytes(buf, words, n as usize);
+        return 0;
     }
-    two_pass_read::read_bytes(buf, words, n as usize);
-    0
+    1
 }
 
 // Both on the same bytes: the one before on a copy of buf, the one that runs on buf. They leave the same.
 #[no_mangle]
 pub extern "C" fn read_both(n: u32, words: &[u32], buf: &mut [u8], copy: &mut [u8]) -> u32
-    ensures answer { λ r. ⌜ r ≡ pick (isTransfer n (now (words .entry)) && eqb (length (now (copy .entry))) (length (now (buf .entry)))) 0 1 ⌝ }
+    ensures answer { λ r. ⌜ r ≡ pick (eqb (length (now (copy .entry))) (length (now (buf .entry))) && isTransfer n (now (words .entry))) 0 1 ⌝ }
     ensures one { λ r. ⌜ now (buf .exit) ≡ pick (eqb r 0) (def.landed n (bytesOf (now (words .entry))) (now (buf .entry))) (now (buf .entry)) ⌝ }
     ensures two { λ r. ⌜ now (copy .exit) ≡ pick (eqb r 0) (laidTwice n (now (words .entry)) (now (buf .entry))) (now (copy .entry)) ⌝ }
-    ensures same { λ r. ⌜ r ≡ 0 → now (copy .exit) ≡ now (buf .exit) ⌝ }
+    ensures same { λ r. ⌜ (r ≡ 0 → now (copy .exit) ≡ now (buf .exit)) ⌝ }
 {
-    if !is_transfer(n, words) {
-        return 1;
-    }
     if copy.len() != buf.len() {
         return 1;
     }
-    slices::copy_over(copy, 0, buf);
-    two_pass_read::read_bytes(copy, words, n as usize);
-    bus::read::read_bytes(buf, words, n as usize);
-    0
+    if is_transfer(n, words) {
+        slices::copy_over(copy, 0, buf);
+        two_pass_read::read_bytes(copy, words, n as usize);
+        bus::read::read_bytes(buf, words, n as usize);
+        return 0;
+    }
+    1
 }
