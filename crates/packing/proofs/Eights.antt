@@ -1,16 +1,16 @@
 -- Words by eights.
 use mathlib.Core.Path.{_≡_, refl, ap}
 use mathlib.Core.List.{List, [], _∷_, _++_}
-use Prim.Native.Nat.{ℕ, zero, suc, _+_, _*_, _-_, _/_, _%_, _≤_}
+use Prim.Native.Nat.{ℕ, zero, suc, _+_, _*_, _-_, _/_, _%_, _≤_, _<_}
 use native.Mathlib.Nat.{add-suc}
 use native.Mathlib.Numerals.{add-one}
 use native.Mathlib.Omega.{arith}
-use lib.ListN.{length, take, drop, getD, length-take}
-use lib.Seq.{take-add, drop-cons}
+use lib.ListN.{length, take, drop, getD, length-take, length-drop}
+use lib.Seq.{take-add, drop-cons, getD-drop}
 use Rattle.slices.specs.Over.{over}
-use Rattle.slices.specs.Le.{bytesOf}
-use Rattle.slices.proofs.Over.{over-append}
-use Rattle.slices.proofs.Le.{length-bytesOf, bytesOf-append}
+use Rattle.slices.specs.Le.{le32, bytesOf}
+use Rattle.slices.proofs.Over.{over-append, Run, run-more}
+use Rattle.slices.proofs.Le.{length-bytesOf, bytesOf-append, bytesOf-more}
 
 -- the elements at k + j, k + j + 1, .., j a numeral: m of them
 abbrev pub from : ℕ → List ℕ → ℕ → ℕ → List ℕ
@@ -42,3 +42,11 @@ eights-rest d ws n h =
     let s : 4 * (n - n % 8) ≡ 0 + length (bytesOf (take (8 * (n / 8)) ws)) = omega (arith, length-bytesOf (take (8 * (n / 8)) ws), length-take (8 * (n / 8)) ws) in
     let e : n - n % 8 ≡ 8 * (n / 8) = omega arith in
     rw (s, over-append, e, ← bytes-parts ws (8 * (n / 8)) (n % 8) n (omega arith))
+
+-- one word more of what is left from s on
+pub left-more : {d₀ d e : List ℕ} (ws : List ℕ) (s i : ℕ) → s + i < length ws → Run d₀ (4 * s) (bytesOf (take i (drop s ws))) d
+    → e ≡ over d (4 * (s + i)) (le32 (getD ws (s + i) 0)) → Run d₀ (4 * s) (bytesOf (take (i + 1) (drop s ws))) e
+left-more ws s i h r p =
+    let l = drop s ws in
+    let k : i < length l = omega (arith, length-drop s ws) in
+    rw (bytesOf-more l i k, getD-drop) (run-more _ r (omega (arith, length-bytesOf (take i l), length-take i l)) p)

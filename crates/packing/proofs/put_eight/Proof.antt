@@ -102,7 +102,7 @@ unfolding bytesOf
 returns c =
     let a = c .before .before .before .before .before .before .before .before .before .before .before .before .before .before .before .before .before .before .args in
     let r : Run (a .dst .now) (4 * a .k) (bytesOf (getD (a .words .now) (a .k) 0 ∷ from 3 (a .words .now) (a .k) 1)) _ = run-more _ run-none (omega arith) (c .before .before .before .before .before .before .put-four .ensures) in
-    rw (eight (a .words .now) (a .k) (c .before .before .before .before .before .before .before .before .before .before .before .before .before .before .before .before .before .before .pre .0)) (run-more _ r refl (c .before .before .put-four2 .ensures) .is)
+    rw (eight (a .words .now) (a .k) (c .before .before .before .before .before .before .before .before .before .before .before .before .before .before .before .before .before .before .pre .0)) (run-more (bytesOf (from 4 (a .words .now) (a .k) 4)) r refl (c .before .before .put-four2 .ensures) .is)
 
 pub put-eight-spec : {M : Type 1} → statement M
 put-eight-spec =

@@ -1,9 +1,9 @@
 -- The bytes of i eights are down.
 use borrow.Author.Needs.{needs}
-use Prim.Native.Nat.{_+_, _*_, _-_, _≤_}
+use Prim.Native.Nat.{_*_, _-_, _≤_}
 use mathlib.Core.Path.{_≡_}
 use native.Mathlib.Omega.{arith}
-use lib.ListN.{length, take, drop, length-take}
+use lib.ListN.{take, length-take}
 use Rattle.slices.specs.Le.{bytesOf}
 use Rattle.slices.proofs.Over.{Run, run-none, run-more}
 use Rattle.slices.proofs.Le.{length-bytesOf}

@@ -11,54 +11,40 @@ use Rattle.two_pass_read.proofs.TwoPass.{twice-landed}
 use Rattle.reads_c.specs.Reads.{isTransfer}
 use Rattle.reads_c.proofs.read_both.Statement.{statement}
 use Rattle.reads_c.proofs.read_both.Tie as tie
-use Rattle.reads_c.proofs.read_both.Reads as reads
-use Rattle.reads_c.proofs.read_both.Lts as lts
-use Rattle.bus.proofs.read.read_bytes.Reads as read-read-bytes-reads
-use Rattle.reads_c.proofs.is_transfer.Reads as is-transfer-reads
-use Rattle.slices.proofs.copy_over.Reads as copy-over-reads
-use Rattle.two_pass_read.proofs.read_bytes.Reads as read-bytes-reads
 
--- src/lib.rt:57:9
 returns : tie.Need-returns
 returns c =
     let f : eqb (length (c .before .before .before .before .args .copy .now)) (length (c .before .before .before .before .args .buf .now)) ≡ false = ne-eqb _ _ (c .if1 .taken) in
     (rw f, (refl, (refl, λ z. absurd (omega arith))))
 
--- src/lib.rt:59:8
 is-transfer-requires : tie.Need-is-transfer-requires
 is-transfer-requires c κs = search needs
 
--- src/lib.rt:60:9
 copy-over-requires : tie.Need-copy-over-requires
 copy-over-requires c κs = search needs
 
--- src/lib.rt:61:9
 read-bytes-requires : tie.Need-read-bytes-requires
 read-bytes-requires c κs = search needs
 
--- src/lib.rt:62:9
 read-bytes-requires-2 : tie.Need-read-bytes-requires-2
 read-bytes-requires-2 c κs = eqb-true _ _ (sym (c .before .before .before .before .before .before .before .before .before .before .before .is-transfer .ensures) ∙ c .before .before .before .before .before .before .before .before .before .before .if2 .taken)
 
--- src/lib.rt:63:9
 same-length : tie.Need-same-length
 same-length c = search needs
 
--- src/lib.rt:63:9
 same-length-2 : tie.Need-same-length-2
 same-length-2 c = search needs
 
--- src/lib.rt:63:9
 returns-2 : tie.Need-returns-2
 returns-2 c =
     let a = c .before .before .before .before .before .before .before .before .before .before .before .before .before .before .before .before .before .before .before .args in
     let t : isTransfer (a .n) (a .words .now) ≡ true = sym (c .before .before .before .before .before .before .before .before .before .before .before .before .before .before .is-transfer .ensures) ∙ c .before .before .before .before .before .before .before .before .before .before .before .before .before .if2 .taken in
     let s : length (a .copy .now) ≡ length (a .buf .now) = c .before .before .before .before .before .before .before .before .before .before .before .before .before .before .before .if1 .left in
     let one = c .before .before .read-bytes2 .ensures in
-    let two : _ ≡ laidTwice (a .n) (a .words .now) (a .buf .now) = rw (c .before .before .before .before .before .before .before .before .before .before .copy-over .ensures, over-whole (a .copy .now) (a .buf .now) (sym s)) at (c .before .before .before .before .before .before .read-bytes .ensures) in
+    let copied = c .before .before .before .before .before .before .before .before .before .before .copy-over .ensures ∙ over-whole (a .copy .now) (a .buf .now) (sym s) in
+    let two : _ ≡ laidTwice (a .n) (a .words .now) (a .buf .now) = rw copied at (c .before .before .before .before .before .before .read-bytes .ensures) in
     (rw (eq-eqb _ _ s, t), (one, (two, λ z. two ∙ (twice-landed (a .n) (a .words .now) (a .buf .now) ∙ sym one))))
 
--- src/lib.rt:49:1
 returns-3 : tie.Need-returns-3
 returns-3 c =
     let a = c .before .before .before .before .before .before .args in

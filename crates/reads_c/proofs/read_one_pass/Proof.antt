@@ -11,24 +11,16 @@ use Rattle.bus.proofs.Landed.{landed-bytes}
 use Rattle.reads_c.specs.Reads.{isTransfer}
 use Rattle.reads_c.proofs.read_one_pass.Statement.{statement}
 use Rattle.reads_c.proofs.read_one_pass.Tie as tie
-use Rattle.reads_c.proofs.read_one_pass.Reads as reads
-use Rattle.reads_c.proofs.read_one_pass.Lts as lts
-use Rattle.bus.proofs.read.read_bytes.Reads as read-bytes-reads
-use Rattle.reads_c.proofs.is_transfer.Reads as is-transfer-reads
 
--- src/lib.rt:28:8
 is-transfer-requires : tie.Need-is-transfer-requires
 is-transfer-requires c κs = search needs
 
--- src/lib.rt:29:9
 read-bytes-requires : tie.Need-read-bytes-requires
 read-bytes-requires c κs = eqb-true _ _ (sym (c .before .before .is-transfer .ensures) ∙ c .before .if1 .taken)
 
--- src/lib.rt:30:9
 same-length : tie.Need-same-length
 same-length c = search needs
 
--- src/lib.rt:30:9
 returns : tie.Need-returns
 returns c =
     let a = c .before .before .before .before .before .before .before .before .args in
@@ -37,7 +29,6 @@ returns c =
     let e = c .before .before .read-bytes .ensures in
     (rw t, (rw t e, λ z i h. rw e (landed-bytes (a .n) (bytesOf (a .words .now)) (a .buf .now) i l h)))
 
--- src/lib.rt:22:1
 returns-2 : tie.Need-returns-2
 returns-2 c =
     let a = c .before .before .before .before .args in

@@ -4,31 +4,22 @@ use mathlib.Core.Bool.{true, false}
 use Rattle.reads_c.specs.Reads.{isTransfer}
 use Rattle.reads_c.proofs.read_two_passes.Statement.{statement}
 use Rattle.reads_c.proofs.read_two_passes.Tie as tie
-use Rattle.reads_c.proofs.read_two_passes.Reads as reads
-use Rattle.reads_c.proofs.read_two_passes.Lts as lts
-use Rattle.reads_c.proofs.is_transfer.Reads as is-transfer-reads
-use Rattle.two_pass_read.proofs.read_bytes.Reads as read-bytes-reads
 
--- src/lib.rt:41:8
 is-transfer-requires : tie.Need-is-transfer-requires
 is-transfer-requires c κs = search needs
 
--- src/lib.rt:42:9
 read-bytes-requires : tie.Need-read-bytes-requires
 read-bytes-requires c κs = search needs
 
--- src/lib.rt:43:9
 same-length : tie.Need-same-length
 same-length c = search needs
 
--- src/lib.rt:43:9
 returns : tie.Need-returns
 returns c =
     let a = c .before .before .before .before .before .before .before .before .args in
     let t : isTransfer (a .n) (a .words .now) ≡ true = sym (c .before .before .before .before .before .is-transfer .ensures) ∙ c .before .before .before .before .if1 .taken in
     (rw t, rw t (c .before .before .read-bytes .ensures))
 
--- src/lib.rt:36:1
 returns-2 : tie.Need-returns-2
 returns-2 c =
     let a = c .before .before .before .before .args in

@@ -23,7 +23,7 @@ rem-result : tie.Need-rem-result
 rem-result c = unit-some (c .args .r) (c .pre)
 
 add-result : tie.Need-add-result
-add-result c = omega (arith, seam-fits (c .args .own) (c .args .next) (c .args .r) (omega arith) (c .pre))
+add-result c = record { fits = seam-fits (c .args .own) _ (c .args .r) (omega arith) (c .pre) }
 
 returns : tie.Need-returns
 returns c = seam-bytes (c .args .own) (c .args .next) (c .args .r) (c .pre)
