@@ -21,6 +21,11 @@ twice-landed n ws b =
     let l : min n (4 * length ws - 4) ≡ 0 + length (take n (drop 4 T)) = omega (arith, length-take n (drop 4 T), length-drop 4 T, length-bytesOf ws) in
     rw (p, l) (over-hides b 0 (take n (drop 4 T)) (drop n (drop 4 T)) (drop n T) (omega (arith, length-drop n (drop 4 T), length-drop 4 T, length-drop n T)))
 
+-- after the first pass, after the second
+pub twice : {c d : List ℕ} (n at : ℕ) (ws b : List ℕ) → at ≡ min n (4 * length ws - 4) → c ≡ over b 0 (bytesOf (drop 1 ws)) → d ≡ over c at (drop n (bytesOf ws)) → d ≡ laidTwice n ws b
+unfolding laidTwice
+twice n at ws b e p q = rw (q, p, e)
+
 -- nothing was transferred
 pub twice-none : (n : ℕ) (ws b : List ℕ) → length ws ≡ 0 → laidTwice n ws b ≡ b
 unfolding laidTwice bytesOf

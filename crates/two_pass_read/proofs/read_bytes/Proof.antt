@@ -1,8 +1,7 @@
 use borrow.Author.Needs.{needs}
 use mathlib.Core.Path.{sym}
 use Rattle.slices.proofs.Over.{part-rest}
-use Rattle.two_pass_read.specs.TwoPass.{laidTwice}
-use Rattle.two_pass_read.proofs.TwoPass.{twice-none}
+use Rattle.two_pass_read.proofs.TwoPass.{twice, twice-none}
 use Rattle.two_pass_read.proofs.read_bytes.Statement.{statement}
 use Rattle.two_pass_read.proofs.read_bytes.Tie as tie
 
@@ -36,8 +35,9 @@ same-length : tie.Need-same-length
 same-length c = search needs
 
 returns-2 : tie.Need-returns-2
-unfolding laidTwice
-returns-2 c = rw (c .before .before .put-tail .ensures, c .before .before .before .before .before .before .before .unpack .ensures, part-rest, c .before .before .before .before .fitting .ensures)
+returns-2 c =
+    let a = c .before .before .before .before .before .before .before .before .before .before .before .before .before .args in
+    twice (a .n) (c .before .before .before .before .fitting .result) (a .words .now) (a .buf .now) (c .before .before .before .before .fitting .ensures) (rw (part-rest (a .words .now) 1) at (c .before .before .before .before .before .before .before .unpack .ensures)) (c .before .before .put-tail .ensures)
 
 pub read-bytes-spec : {M : Type 1} → statement M
 read-bytes-spec =
