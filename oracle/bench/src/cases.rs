@@ -139,15 +139,16 @@ pub fn cases() -> Vec<Case> {
         radio.frame(&[0x55; 60]);
     });
     let poll60 = both.case("poll, a frame of 60 bytes", 200, |both| vec![both.poll()]);
-    let poll1500 = both.case("poll, a frame of 1,500 bytes", 200, |both| {
-        vec![both.heard(|radio| radio.frame(&[0x55; 1500]))]
-    });
+    let poll = |n| move |both: &mut Both| vec![both.heard(|radio| radio.frame(&vec![0x55; n]))];
+    let poll1500 = both.case("poll, a frame of 1,500 bytes", 200, poll(1500));
+    // The longest read of all, of 1,536 bytes.
+    let poll1518 = both.case("poll, a frame of 1,518 bytes", 200, poll(1518));
     both.credit();
     let send = |n| move |both: &mut Both| vec![both.call(7, words(&[0], &vec![0xaa; n]))];
     let send60 = both.case("send of 60 bytes", 200, send(60));
     both.credit();
     let send1500 = both.case("send of 1,500 bytes", 200, send(1500));
-    vec![poll60, poll1500, idle, send60, send1500, join, scan]
+    vec![poll60, poll1500, poll1518, idle, send60, send1500, join, scan]
 }
 
 /// A case's calls as both sides make them: arguments read, recordings in one run of words.

@@ -24,7 +24,9 @@ unsafe extern "C" {
 const BUFFER: usize = 2048;
 /// The longest read whose transfer the work buffer holds.
 const LONGEST: usize = 2044;
-const TIMED: [usize; 4] = [1, 61, 1501, 1536];
+/// The lengths that are timed, and how many reads a batch has.
+const TIMED: [(usize, &str); 4] = [(1, "1"), (61, "61"), (1501, "1,501"), (1536, "1,536")];
+const CALLS: usize = 500;
 /// Where a buffer begins after a multiple of 64 bytes.
 const PLACES: [usize; 16] = [0, 1, 2, 3, 4, 6, 8, 12, 16, 20, 24, 31, 32, 40, 48, 63];
 /// Bytes before and after a buffer, which stay.
@@ -43,8 +45,10 @@ fn transferred(n: usize) -> usize {
 }
 
 fn numbers(seed: u64) -> impl Iterator<Item = u32> {
-    iter::successors(Some(seed), |x| Some(x.wrapping_mul(6364136223846793005).wrapping_add(1442695040888963407)))
-        .map(|x| (x >> 32) as u32)
+    iter::successors(Some(seed), |x| {
+        Some(x.wrapping_mul(6364136223846793005).wrapping_add(1442695040888963407))
+    })
+    .map(|x| (x >> 32) as u32)
 }
 
 impl Memory {
@@ -97,7 +101,11 @@ pub fn compare() {
             rule(n, transfer, expected.buffer(place, len));
             for read in [read_two_passes, read_one_pass] {
                 let mut memory = entry.clone();
-                assert_eq!(call(read, n, transfer, memory.buffer(place, len)), 0, "a read of {n} bytes");
+                assert_eq!(
+                    call(read, n, transfer, memory.buffer(place, len)),
+                    0,
+                    "a read of {n} bytes"
+                );
                 assert!(memory.0 == expected.0, "a read of {n} bytes into {len}");
             }
             let (mut memory, mut copy) = (entry.clone(), Memory::new(n as u64));
@@ -110,7 +118,11 @@ pub fn compare() {
             let entry = Memory::new(n as u64);
             let (mut memory, mut copy) = (entry.clone(), entry.clone());
             for read in [read_two_passes, read_one_pass] {
-                assert_eq!(call(read, n, transfer, memory.buffer(place, BUFFER)), 1, "{count} words");
+                assert_eq!(
+                    call(read, n, transfer, memory.buffer(place, BUFFER)),
+                    1,
+                    "{count} words"
+                );
             }
             assert_eq!(both(n, transfer, memory.buffer(0, BUFFER), copy.buffer(0, BUFFER)), 1);
             assert!(memory.0 == entry.0 && copy.0 == entry.0, "{count} words for {n} bytes");
@@ -137,62 +149,72 @@ fn both(n: usize, words: &[u32], buf: &mut [u8], copy: &mut [u8]) -> u32 {
 }
 
 /// A copy of as many bytes by the C library, to hold the routines against.
-unsafe extern "C" fn copied(_: u32, words: *const u32, count: usize, buf: *mut u8, _: usize) -> u32 {
+unsafe extern "C" fn copied(
+    _: u32,
+    words: *const u32,
+    count: usize,
+    buf: *mut u8,
+    _: usize,
+) -> u32 {
     unsafe { ptr::copy_nonoverlapping(words.cast(), buf, 4 * black_box(count)) };
     0
 }
 
 /// Nanoseconds a call.
 #[inline(never)]
-fn batch(read: Read, n: usize, words: &[u32], buf: &mut [u8], calls: usize) -> f64 {
+fn batch(read: Read, n: usize, words: &[u32], buf: &mut [u8]) -> f64 {
     let read = black_box(read);
     let start = Instant::now();
-    for _ in 0..calls {
+    for _ in 0..CALLS {
         black_box(call(read, black_box(n), words, black_box(&mut *buf)));
     }
-    start.elapsed().as_nanos() as f64 / calls as f64
+    start.elapsed().as_nanos() as f64 / CALLS as f64
 }
 
-/// The medians at each place, in turn.
-fn time<const K: usize>(reads: [Read; K], n: usize, count: usize, repeats: usize) -> Vec<[f64; K]> {
+/// One pass, two passes and the copy at one place: a batch each in turn, and the medians.
+fn time(n: usize, count: usize, place: usize, repeats: usize) -> [f64; 3] {
     let (words, mut memory) = (Words::new(1), Memory::new(2));
-    let placed = PLACES.iter().enumerate().map(|(p, &place)| {
-        let transfer = &words.transfer(5 * p, LONGEST)[..count];
-        let mut times = [const { Vec::new() }; K];
-        for _ in 0..repeats {
-            for (read, times) in reads.iter().zip(&mut times) {
-                times.push(batch(*read, n, transfer, memory.buffer(place, BUFFER), 500));
-            }
+    let transfer = &words.0[5 * place % 16..][..count];
+    let mut times = [const { Vec::new() }; 3];
+    for _ in 0..repeats {
+        for (read, times) in [read_one_pass, read_two_passes, copied].iter().zip(&mut times) {
+            times.push(batch(*read, n, transfer, memory.buffer(place, BUFFER)));
         }
-        times.map(median)
-    });
-    placed.collect()
+    }
+    times.map(median)
 }
 
-/// Prints the times, the greater part of each being over all places.
+/// The medians over some places of the buffer; the copy's only where there is something to copy.
+fn print_row(name: &str, n: usize, count: usize, places: &[usize], repeats: usize) {
+    let times: Vec<_> = places.iter().map(|place| time(n, count, *place, repeats)).collect();
+    let of = |k: usize| median(times.iter().map(|t| t[k]).collect());
+    let ratios: Vec<_> = times.iter().map(|t| t[0] / t[1]).collect();
+    println!(
+        "{name:<30} {:>5} {:>10.1} {:>10.1} {:>7.2}   {:<13} {:>8}",
+        places.len(),
+        of(0),
+        of(1),
+        median(ratios.clone()),
+        format!(
+            "{:.2}, {:.2}",
+            ratios.iter().copied().fold(f64::INFINITY, f64::min),
+            ratios.iter().copied().fold(0.0, f64::max)
+        ),
+        if count == transferred(n) { format!("{:.1}", of(2)) } else { String::new() }
+    );
+}
+
+/// Prints the times of both routines, of reads of so many bytes, into buffers that begin at a multiple of 16 bytes and into others.
 pub fn print(short: bool) {
     let repeats = if short { 11 } else { 101 };
     println!(
-        "\n{:<30} {:>5} {:>10} {:>10} {:>7}   {:<13} {:>7}",
-        "ns, a read alone", "", "one pass", "two passes", "ratio", "least, most", "memcpy"
+        "\n{:<30} {:>5} {:>10} {:>10} {:>7}   {:<13} {:>8}",
+        "ns, the read routine alone", "place", "one pass", "two", "ratio", "least, most", "memcpy"
     );
-    let refused = time([read_one_pass, read_two_passes], 1, 1, repeats);
-    let over = |k: usize, times: &[[f64; 2]]| median(times.iter().map(|t| t[k]).collect());
-    println!("{:<30} {:>5} {:>10.1} {:>10.1}", "refused at once", "", over(0, &refused), over(1, &refused));
-    for n in TIMED {
-        let times = time([read_one_pass, read_two_passes, copied], n, transferred(n), repeats);
-        let of = |k: usize| median(times.iter().map(|t| t[k]).collect());
-        let ratios: Vec<_> = times.iter().map(|t| t[0] / t[1]).collect();
-        println!(
-            "{:<30} {:>5} {:>10.1} {:>10.1} {:>7.2}   {:.2}, {:.2}    {:>7.1}",
-            format!("of {n} bytes"),
-            "",
-            of(0),
-            of(1),
-            median(ratios.clone()),
-            ratios.iter().copied().fold(f64::INFINITY, f64::min),
-            ratios.iter().copied().fold(0.0, f64::max),
-            of(2)
-        );
+    let (even, odd): (Vec<_>, Vec<_>) = PLACES.iter().partition(|&place| place % 16 == 0);
+    print_row("words of no read, refused", 1, 1, &PLACES, repeats);
+    for (n, name) in TIMED {
+        print_row(&format!("{name} bytes, at 16"), n, transferred(n), &even, repeats);
+        print_row(&format!("{name} bytes, elsewhere"), n, transferred(n), &odd, repeats);
     }
 }
