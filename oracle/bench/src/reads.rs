@@ -27,14 +27,15 @@ const LONGEST: usize = 2044;
 /// The lengths that are timed, and how many reads a batch has.
 const TIMED: [(usize, &str); 4] = [(1, "1"), (61, "61"), (1501, "1,501"), (1536, "1,536")];
 const CALLS: usize = 500;
-/// Where a buffer begins after a multiple of 64 bytes.
+/// Where a buffer begins after a multiple of 64 bytes, and where that multiple lies in a page.
 const PLACES: [usize; 16] = [0, 1, 2, 3, 4, 6, 8, 12, 16, 20, 24, 31, 32, 40, 48, 63];
+const IN_PAGE: [usize; 4] = [0, 1024, 2048, 3072];
 /// Bytes before and after a buffer, which stay.
 const AROUND: usize = 64;
 
 #[repr(align(64))]
 #[derive(Clone)]
-struct Memory([u8; AROUND + BUFFER + 2 * AROUND]);
+struct Memory([u8; AROUND + 4096 + BUFFER + AROUND]);
 
 #[repr(align(64))]
 struct Words([u32; 16 + 1 + LONGEST / 4 + 1]);
@@ -206,13 +207,14 @@ fn print_row(name: &str, n: usize, count: usize, places: &[usize], repeats: usiz
 
 /// Prints the times of both routines, of reads of so many bytes, into buffers that begin at a multiple of 16 bytes and into others.
 pub fn print(short: bool) {
-    let repeats = if short { 11 } else { 101 };
+    let repeats = if short { 5 } else { 51 };
     println!(
         "\n{:<30} {:>5} {:>10} {:>10} {:>7}   {:<13} {:>8}",
         "ns, the read routine alone", "place", "one pass", "two", "ratio", "least, most", "memcpy"
     );
-    let (even, odd): (Vec<_>, Vec<_>) = PLACES.iter().partition(|&place| place % 16 == 0);
-    print_row("words of no read, refused", 1, 1, &PLACES, repeats);
+    let places = IN_PAGE.iter().flat_map(|start| PLACES.iter().map(move |place| start + place));
+    let (even, odd): (Vec<_>, Vec<_>) = places.partition(|place| place % 16 == 0);
+    print_row("words of no read, refused", 1, 1, &even, repeats);
     for (n, name) in TIMED {
         print_row(&format!("{name} bytes, at 16"), n, transferred(n), &even, repeats);
         print_row(&format!("{name} bytes, elsewhere"), n, transferred(n), &odd, repeats);
