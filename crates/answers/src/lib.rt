@@ -1,4 +1,5 @@
 // What a recording answers to an operation.
+#![tactic(auto)]
 ghost use Rattle.std.specs.Prelude.{◌≡◌, List, [], ℕ, ◌+◌, ◌*◌, ◌<◌, ltb, drop, get_or};
 ghost use Rattle.slices.specs.Pick.{pick};
 ghost use Rattle.definition.specs.Bus as def;
@@ -7,7 +8,7 @@ ghost use Rattle.answers.specs.Taken.{seen, taken_for, taken_of};
 
 use wlan::{BusAnswer, BusOp};
 
-#[derive(Drop)]
+#[derive(Clone, Copy)]
 pub enum Taken {
     // The next answer is not wholly recorded.
     Unrecorded,
@@ -17,7 +18,7 @@ pub enum Taken {
 }
 
 // A recorded answer: a fault's place, or a kind and a value. No operation takes kind 0.
-#[derive(Drop)]
+#[derive(Clone, Copy)]
 pub enum Recorded {
     Fault(u8),
     Value(u32, u64),

@@ -1,4 +1,5 @@
 // A call from its number and its arguments as bytes. Numbers are le words.
+#![tactic(auto)]
 ghost use Rattle.std.specs.Prelude.{◌≡◌};
 ghost use Rattle.definition.specs.Player.{name_length, join_of, variable_of};
 ghost use Rattle.lines.specs.Input.{complete, Plain};
@@ -8,7 +9,7 @@ use jobs::ExchangeCall;
 use words::get_le32;
 
 // Byte arguments stay where they are.
-#[derive(Drop)]
+#[derive(Clone, Copy)]
 pub enum CallArgs {
     // A call that is exchanges; where its first byte argument begins and ends, and where the second begins, which ends with the bytes.
     Exchanges(ExchangeCall, usize, usize, usize),

@@ -1,11 +1,12 @@
 // A failed join as numbers: a tag, 0 for none, and fields, 0 where there are none.
+#![tactic(auto)]
 ghost use Rattle.std.specs.Prelude.{◌≡◌};
 ghost use Rattle.connect_failure.specs.Parts as to;
 
 use wlan::{ConnectFailure, WifiConnectFailure};
 
 // The tag is 1 to 7, in the order of the variants.
-#[derive(Drop)]
+#[derive(Clone, Copy)]
 pub struct FailureParts {
     pub tag: u8,
     pub status: u32,

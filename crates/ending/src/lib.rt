@@ -1,2 +1,3 @@
 // `take`, which asks nothing of the bus.
+#![tactic(auto)]
 pub mod take;

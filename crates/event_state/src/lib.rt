@@ -1,4 +1,5 @@
 // What an event does to the state.
+#![tactic(auto)]
 ghost use Rattle.std.specs.Prelude.{◌≡◌, true, ◌+◌, ◌*◌, ◌≤◌, length, drop};
 ghost use Rattle.wlan.specs.declared.ScanRecord as scanRecord;
 ghost use Rattle.definition.specs.Event.{event_bytes, link_after, scan_end};
@@ -14,7 +15,7 @@ use places_read::{link_at, marks_at};
 use wlan::{AsyncEvent, ScanMarks, ScanRecord};
 
 // What leads an event.
-#[derive(Drop)]
+#[derive(Clone, Copy)]
 pub struct Numbers {
     pub flags: u16,
     pub event_type: u32,

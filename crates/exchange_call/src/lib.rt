@@ -1,4 +1,5 @@
 // A call's exchanges over its recording, on a session's bytes: the loop over the exchanges.
+#![tactic(auto)]
 ghost use Rattle.std.specs.Prelude.{◌≡◌, true, false, List, [], ℕ, ◌+◌, ◌<◌, ◌≤◌, length, drop};
 ghost use Rattle.wlan.specs.declared.BusAnswer as answer;
 ghost use Rattle.wlan.specs.declared.Outcome.{Outcome};
@@ -41,7 +42,7 @@ use run_end::{RunEnd, done_end, error_end, success_end};
 use turning::{back_end, is_back};
 
 // It goes on with a plan, or is over. end.len: how many words are in the log.
-#[derive(Drop)]
+#[derive(Clone, Copy)]
 pub struct CallTurned {
     pub on: bool,
     pub plan: Plan,

@@ -12,7 +12,7 @@ use poll_points::{PollAt, PollKind};
 use reply_points::{IoctlAt, IoctlKind};
 use wlan::DriverError;
 
-#[derive(Drop)]
+#[derive(Clone, Copy)]
 pub enum CallKind {
     Exchange,
     Pause,
@@ -23,7 +23,7 @@ pub enum CallKind {
 }
 
 // ns: how long init still waits for the device to settle.
-#[derive(Drop)]
+#[derive(Clone, Copy)]
 pub struct CallNow {
     pub kind: CallKind,
     pub stage: Stage,

@@ -1,4 +1,5 @@
 // `do_ioctl`: where it waits for the bus, the clock of its wait, and what a reply comes to.
+#![tactic(auto)]
 ghost use Rattle.std.specs.Prelude.{◌≡◌};
 ghost use Rattle.ioctl.specs.Ioctl as to;
 
@@ -7,7 +8,7 @@ use send::{HeaderPut, OutPacket, SendPoint};
 use wlan::{DriverError, State};
 
 // While the reply is awaited the number is the clock at the wait's start.
-#[derive(Drop)]
+#[derive(Clone, Copy)]
 pub enum IoctlPoint {
     Sending(SendPoint),
     First,
@@ -18,13 +19,13 @@ pub enum IoctlPoint {
 }
 
 // The part of a reply that is copied to the payload's place.
-#[derive(Drop)]
+#[derive(Clone, Copy)]
 pub struct Copied {
     pub offset: u16,
     pub count: u16,
 }
 
-#[derive(Drop)]
+#[derive(Clone, Copy)]
 pub enum IoctlNext {
     Ask(HeaderPut, IoctlPoint),
     Done(Copied),
@@ -32,7 +33,7 @@ pub enum IoctlNext {
 }
 
 // heard: the scan list is to hear the event that came.
-#[derive(Drop)]
+#[derive(Clone, Copy)]
 pub struct IoctlStep {
     pub st: State,
     pub heard: bool,

@@ -1,4 +1,5 @@
 // An exchange over its recording, on a session's bytes: the loop over its operations.
+#![tactic(auto)]
 pub mod asks;
 
 ghost use Rattle.std.specs.Prelude.{◌≡◌, true, false, ◌<◌, ◌≤◌, length};
@@ -20,7 +21,7 @@ use turning::is_back;
 use wlan::DriverError;
 
 // Its last step, and what its last operation was answered.
-#[derive(Drop)]
+#[derive(Clone, Copy)]
 pub struct IoctlTurned {
     pub on: bool,
     pub now: IoctlNow,

@@ -1,8 +1,9 @@
 // What a call is beside its byte arguments. How each call begins is in specs/Jobs.antt.
+#![tactic(auto)]
 pub mod jobs;
 
 // A call that is exchanges, with its numbers. Its byte arguments are lent beside it: SSID and passphrase, a variable's name and data.
-#[derive(Drop)]
+#[derive(Clone, Copy)]
 pub enum ExchangeCall {
     Init(u32),
     Scan,

@@ -1,2 +1,3 @@
 // The fourteen calls with the scan list in a lent table of 32 records.
+#![tactic(auto)]
 pub mod table;

@@ -1,4 +1,5 @@
 // A call as a value, and its run on a list by value.
+#![tactic(auto)]
 ghost use Rattle.std.specs.Prelude.{◌≡◌, length};
 ghost use Rattle.slices.specs.Pick.{pick};
 ghost use Rattle.definition.specs.Prog.{world};
@@ -12,7 +13,7 @@ use jobs::ExchangeCall;
 use wlan::{Outcome, Refusal, ScanList, State};
 
 // A call with its numbers. The bytes that it takes are lent beside it: SSID and passphrase, a frame, a variable's name and data.
-#[derive(Drop)]
+#[derive(Clone, Copy)]
 pub enum WifiCall {
     Exchanges(ExchangeCall),
     Poll,
@@ -22,7 +23,7 @@ pub enum WifiCall {
 }
 
 // What a call hands back beside its lent slices; len: the words of the log.
-#[derive(Drop)]
+#[derive(Clone, Copy)]
 pub struct LentEnd {
     pub outcome: Outcome,
     pub st: State,

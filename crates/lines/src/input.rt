@@ -2,7 +2,7 @@
 ghost use Rattle.std.specs.Prelude.{◌≡◌, ◌≤◌, length};
 ghost use Rattle.lines.specs.Input.{is_call, output_length, Within, Fits};
 
-#[derive(Drop)]
+#[derive(Clone, Copy)]
 pub enum Word {
     // No byte is left.
     End,
@@ -12,13 +12,13 @@ pub enum Word {
 }
 
 // A count within its limit.
-#[derive(Drop)]
+#[derive(Clone, Copy)]
 enum Count {
     Bad,
     Is(usize),
 }
 
-#[derive(Drop)]
+#[derive(Clone, Copy)]
 pub enum Next {
     Nothing,
     Bad,

@@ -1,4 +1,5 @@
 // A session of the observer: the log's length before each call; the player's lines of each call and then all else that it left.
+#![tactic(auto)]
 
 ghost use Rattle.std.specs.Prelude.{◌≡◌, true, ◌≤◌, length, replicate};
 ghost use Rattle.definition.specs.Player.{arguments_of, played_call};

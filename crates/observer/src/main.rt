@@ -1,5 +1,6 @@
 // The observer: plays a session file, which has a log's length before each call, and prints the player's lines of each call and
 // then all else that it left.
+#![tactic(auto)]
 
 // Turns are counted down from a number that no run uses up.
 fn main() {

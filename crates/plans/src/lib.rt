@@ -1,4 +1,5 @@
 // What a call does next.
+#![tactic(auto)]
 ghost use Rattle.std.specs.Prelude.{◌≡◌, Bool, false, ℕ, length};
 ghost use Rattle.wlan.specs.declared.BusAnswer.{BusAnswer};
 ghost use Rattle.wlan.specs.declared.DriverError as error;
@@ -27,7 +28,7 @@ use steps::steps::is_dev_error;
 use wlan::{DriverError, WifiAuth};
 
 // The waits of a call.
-#[derive(Drop)]
+#[derive(Clone, Copy)]
 pub enum PauseKind {
     AfterCountry,
     Settle,
@@ -38,7 +39,7 @@ pub enum PauseKind {
 }
 
 // How a stage begins.
-#[derive(Drop)]
+#[derive(Clone, Copy)]
 pub enum BeginKind {
     Whole,
     // the payload lies there already
@@ -47,7 +48,7 @@ pub enum BeginKind {
     Joined,
 }
 
-#[derive(Drop)]
+#[derive(Clone, Copy)]
 pub enum PlanKind {
     // a stage, a wait, the clock, the tick
     Begin,
@@ -68,7 +69,7 @@ pub enum PlanKind {
 }
 
 // ns: how long init still waits for the device to settle; t: leave's tick.
-#[derive(Drop)]
+#[derive(Clone, Copy)]
 pub struct Plan {
     pub kind: PlanKind,
     pub begin: BeginKind,

@@ -1,4 +1,5 @@
 // The player: reads calls from standard input, plays each on the driver and prints its lines.
+#![tactic(auto)]
 
 // A loop has to end, and nothing says that the input does: turns are counted down from a number that no run uses up.
 fn main() {

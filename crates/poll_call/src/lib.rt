@@ -1,4 +1,5 @@
 // `poll` over its recording, on a session's bytes.
+#![tactic(auto)]
 ghost use Rattle.std.specs.Prelude.{◌≡◌, true, false, ◌≤◌, ◌<◌, length, drop};
 ghost use Rattle.definition.specs.Bus.{Bytes};
 ghost use Rattle.definition.specs.Prog.{World};
@@ -28,7 +29,7 @@ use turning::{back_end, device_ask, is_back};
 use wlan::DriverError;
 
 // A turn goes on at an operation of the device's poll, or the poll is over. end.len: how many words are in the log.
-#[derive(Drop)]
+#[derive(Clone, Copy)]
 pub struct PollTurned {
     pub on: bool,
     pub at: PollAt,

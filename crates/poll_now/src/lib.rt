@@ -1,4 +1,5 @@
 // `poll` on a session's bytes: where it stands, and what it does when nothing more is there or a frame came.
+#![tactic(auto)]
 ghost use Rattle.std.specs.Prelude.{◌≡◌, Bool, true};
 ghost use Rattle.control.specs.Poll as to;
 ghost use Rattle.session_bytes.specs.Session.{is_session, session_in};
@@ -13,7 +14,7 @@ use poll_report::report;
 use run_end::{PollReport, unfailed};
 use wlan::{PendingBuf, PendingRx, StartedTick, WifiState};
 
-#[derive(Drop)]
+#[derive(Clone, Copy)]
 pub enum NowKind {
     Ask,
     Tick,
@@ -22,7 +23,7 @@ pub enum NowKind {
 }
 
 // Where a poll stands: at an operation of the device's poll, at the tick (started: the disconnect began at this one), or at its end.
-#[derive(Drop)]
+#[derive(Clone, Copy)]
 pub struct PollNow {
     pub kind: NowKind,
     pub at: PollAt,

@@ -1,5 +1,6 @@
 // A poll of the device, on a session's bytes: where it waits, and an answer that brings no packet. What is handed on is flat, a kind
 // beside plain numbers: a compiler keeps that in registers.
+#![tactic(auto)]
 ghost use Rattle.std.specs.Prelude.{◌≡◌, true, false};
 ghost use Rattle.wlan.specs.State.{set_mark};
 ghost use Rattle.wlan.specs.declared.Sdpcm.{Sdpcm};
@@ -15,7 +16,7 @@ use sdpcm::status::{f2_available, has_packet, pending, unreadable};
 use wlan::Interface;
 use wlan::setters::set_mark;
 
-#[derive(Drop)]
+#[derive(Clone, Copy)]
 pub enum PollKind {
     Interrupt,
     Acknowledge,
@@ -26,13 +27,13 @@ pub enum PollKind {
 }
 
 // Where a poll of the device waits. n: the interrupt to write back, how many status reads are left, or the packet's length.
-#[derive(Drop)]
+#[derive(Clone, Copy)]
 pub struct PollAt {
     pub kind: PollKind,
     pub n: u16,
 }
 
-#[derive(Drop)]
+#[derive(Clone, Copy)]
 pub enum PolledKind {
     Ask,
     None,
@@ -43,7 +44,7 @@ pub enum PolledKind {
 }
 
 // What an answer comes to: the next operation, a packet or none, or refusal 10.
-#[derive(Drop)]
+#[derive(Clone, Copy)]
 pub struct Polled {
     pub kind: PolledKind,
     pub at: PollAt,

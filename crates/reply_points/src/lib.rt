@@ -1,4 +1,5 @@
 // `do_ioctl`: where an exchange waits, and the steps of it that lay nothing and change nothing. What is handed on is flat.
+#![tactic(auto)]
 ghost use Rattle.std.specs.Prelude.{◌≡◌, Bool, true, false, ℕ};
 ghost use Rattle.wlan.specs.declared.DriverError as error;
 ghost use Rattle.wlan.specs.declared.State.{State};
@@ -19,7 +20,7 @@ use send_points::{SendAt, SendKind, unpolled};
 use wlan::{DriverError, PendingIoctlResp};
 
 // A send's point or the exchange's own: the stall before the write, the status and the write, then the wait for the reply.
-#[derive(Drop)]
+#[derive(Clone, Copy)]
 pub enum IoctlKind {
     StallFirst,
     StallPolling,
@@ -35,7 +36,7 @@ pub enum IoctlKind {
 
 // Where an exchange waits. at: the operation of a stall's poll or of a poll for the reply; t0: the clock at the start of a stall or of the
 // wait for the reply; left: how many status reads are left; n: the packet's length.
-#[derive(Drop)]
+#[derive(Clone, Copy)]
 pub struct IoctlAt {
     pub kind: IoctlKind,
     pub at: PollAt,
@@ -44,7 +45,7 @@ pub struct IoctlAt {
     pub n: u16,
 }
 
-#[derive(Drop)]
+#[derive(Clone, Copy)]
 pub enum IoctlNowKind {
     Ask,
     Done,
@@ -52,7 +53,7 @@ pub enum IoctlNowKind {
 }
 
 // What a step comes to: the next operation, a reply's place in the work buffer, or a refusal.
-#[derive(Drop)]
+#[derive(Clone, Copy)]
 pub struct IoctlNow {
     pub kind: IoctlNowKind,
     pub at: IoctlAt,

@@ -1,4 +1,5 @@
 // How a call ended, as numbers that go through no memory in pieces.
+#![tactic(auto)]
 ghost use Rattle.std.specs.Prelude.{◌≡◌};
 ghost use Rattle.wlan.specs.declared.ConnectFailure.{ConnectFailure};
 ghost use Rattle.wlan.specs.declared.DriverError.{DriverError};
@@ -13,7 +14,7 @@ use connect_failure::{FailureParts, failure_parts};
 use wlan::{ConnectFailure, DriverError, Success, WlanPollResult};
 
 // How a call ended, but for the numbers that go with it.
-#[derive(Drop)]
+#[derive(Clone, Copy)]
 pub enum EndKind {
     Done,
     Polled,
@@ -36,7 +37,7 @@ pub enum EndKind {
 }
 
 // back: all is to be as before the call; failure: the failed join that a poll reports.
-#[derive(Drop)]
+#[derive(Clone, Copy)]
 pub struct RunEnd {
     pub back: bool,
     pub kind: EndKind,
@@ -46,7 +47,7 @@ pub struct RunEnd {
 }
 
 // A poll's value, and the failed join that it reports.
-#[derive(Drop)]
+#[derive(Clone, Copy)]
 pub struct PollReport {
     pub value: u64,
     pub failure: FailureParts,

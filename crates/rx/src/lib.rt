@@ -1,4 +1,5 @@
 // Received packets, in the work buffer.
+#![tactic(auto)]
 ghost use Rattle.std.specs.Prelude.{◌≡◌, length};
 ghost use Rattle.definition.specs.Packet.{process_rx};
 ghost use Rattle.rx.specs.Packets as to;
@@ -7,7 +8,7 @@ use rx_header::{accepted, channel_in, is_packet, size_in};
 use rx_payload::{Packet, none, payload_of};
 use wlan::Sdpcm;
 
-#[derive(Drop)]
+#[derive(Clone, Copy)]
 pub struct Processed {
     pub sdpcm: Sdpcm,
     pub packet: Packet,

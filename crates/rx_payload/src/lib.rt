@@ -1,5 +1,6 @@
 // What follows a received packet's header, in the work buffer: it has 2,048 bytes, so all that a header's length can reach is there.
 // What is handed on is flat, a kind beside plain numbers.
+#![tactic(auto)]
 ghost use Rattle.std.specs.Prelude.{◌≡◌, length, take};
 ghost use Rattle.wlan.specs.declared.Received as received;
 ghost use Rattle.wlan.specs.declared.SdpcmPacket as packet;
@@ -8,7 +9,7 @@ ghost use Rattle.rx_payload.specs.Packets as to;
 
 use wlan::Interface;
 
-#[derive(Drop)]
+#[derive(Clone, Copy)]
 pub enum PacketKind {
     None,
     Control,
@@ -18,7 +19,7 @@ pub enum PacketKind {
 }
 
 // A packet or none, or that its header's length is beyond its size.
-#[derive(Drop)]
+#[derive(Clone, Copy)]
 pub struct Packet {
     pub kind: PacketKind,
     pub offset: u16,

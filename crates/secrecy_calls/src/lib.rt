@@ -1,1 +1,2 @@
 // The passphrase never leaves, said of the exported calls: the statement in specs/, its proof in proofs/. It has no code.
+#![tactic(auto)]

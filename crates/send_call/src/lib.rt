@@ -1,4 +1,5 @@
 // `send_data` over its recording, on a session's bytes.
+#![tactic(auto)]
 pub mod asks;
 
 ghost use Rattle.std.specs.Prelude.{◌≡◌, true, false, List, [], ℕ, ◌≤◌, ◌<◌, length, drop};
@@ -27,7 +28,7 @@ use turning::{back_end, is_back};
 use undo::keep;
 
 // A turn goes on at an operation of the send, or the send is over. end.len: how many words are in the log.
-#[derive(Drop)]
+#[derive(Clone, Copy)]
 pub struct SendTurned {
     pub on: bool,
     pub at: SendAt,

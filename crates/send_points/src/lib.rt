@@ -1,4 +1,5 @@
 // `sdpcm_send_common`: where a send waits, and the steps of it that lay nothing and change nothing. What is handed on is flat.
+#![tactic(auto)]
 ghost use Rattle.std.specs.Prelude.{◌≡◌, Bool, true};
 ghost use Rattle.wlan.specs.declared.State.{State};
 ghost use Rattle.definition.specs.Send.{free};
@@ -14,7 +15,7 @@ use sdpcm::status::f2_ready;
 use send::{OutPacket, elapsed_us};
 use wlan::DriverError;
 
-#[derive(Drop)]
+#[derive(Clone, Copy)]
 pub enum SendKind {
     First,
     Polling,
@@ -26,7 +27,7 @@ pub enum SendKind {
 
 // Where a send waits. at: the operation of a stall's poll; t0: the clock at a stall's start; left: how many status reads are left; n: the
 // packet's length.
-#[derive(Drop)]
+#[derive(Clone, Copy)]
 pub struct SendAt {
     pub kind: SendKind,
     pub at: PollAt,
@@ -35,7 +36,7 @@ pub struct SendAt {
     pub n: u16,
 }
 
-#[derive(Drop)]
+#[derive(Clone, Copy)]
 pub enum SentKind {
     Ask,
     Sent,
@@ -43,7 +44,7 @@ pub enum SentKind {
 }
 
 // What a step comes to: the next operation, the end, or a refusal.
-#[derive(Drop)]
+#[derive(Clone, Copy)]
 pub struct SendNow {
     pub kind: SentKind,
     pub at: SendAt,

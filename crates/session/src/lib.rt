@@ -1,5 +1,6 @@
 // A session of the player: one call read, played and printed. What passes from call to call lies in the session's bytes and the work
 // buffer; what is returned is whether the session goes on.
+#![tactic(auto)]
 
 pub mod calls;
 

@@ -1,7 +1,7 @@
 // What a session is.
 use wlan::{ScanList, State};
 
-#[derive(Drop)]
+#[derive(Clone, Copy)]
 pub struct Session {
     pub st: State,
     pub list: ScanList,

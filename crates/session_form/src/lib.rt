@@ -1,4 +1,5 @@
 // Which bytes are a session's.
+#![tactic(auto)]
 pub mod parts;
 
 ghost use Rattle.std.specs.Prelude.{◌≡◌};

@@ -1,4 +1,5 @@
 // How each call begins on a session's bytes: its first request, or that it is over without one. Of byte arguments only the lengths are looked at.
+#![tactic(auto)]
 pub mod bytes;
 pub mod calls;
 pub mod kinds;
@@ -7,7 +8,7 @@ pub mod plain;
 use control::{Job, Stage};
 use wlan::DriverError;
 
-#[derive(Drop)]
+#[derive(Clone, Copy)]
 pub enum StartKind {
     Exchange,
     Done,
@@ -15,7 +16,7 @@ pub enum StartKind {
 }
 
 // stage is meant by Exchange alone, error by Refused alone.
-#[derive(Drop)]
+#[derive(Clone, Copy)]
 pub struct Start {
     pub kind: StartKind,
     pub job: Job,

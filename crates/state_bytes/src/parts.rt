@@ -7,7 +7,7 @@ use crate::numbers::unsigned32;
 use signed::signed32;
 use wlan::{PendingBuf, PendingIoctlResp, PendingResp, PendingRx, StartedTick};
 
-#[derive(Drop)]
+#[derive(Clone, Copy)]
 pub struct ReplyParts {
     pub tag: u8,
     pub offset: u16,
@@ -15,14 +15,14 @@ pub struct ReplyParts {
     pub status: u32,
 }
 
-#[derive(Drop)]
+#[derive(Clone, Copy)]
 pub struct FrameParts {
     pub tag: u8,
     pub offset: u16,
     pub len: u16,
 }
 
-#[derive(Drop)]
+#[derive(Clone, Copy)]
 pub struct TickParts {
     pub tag: u8,
     pub tick: u64,

@@ -1,9 +1,10 @@
 // The driver's types by value. Names are the Rust's; an `Option` is an enum of its own.
 // They stand at the root, since a proof writes a type's path out wherever it meets the type.
+#![tactic(auto)]
 pub mod setters;
 
 // What the driver asks of the bus, and what it is answered.
-#[derive(Drop)]
+#[derive(Clone, Copy)]
 pub enum BusOp {
     ReadInterrupt,
     ReadStatus,
@@ -19,14 +20,14 @@ pub enum BusOp {
 }
 
 // An answer whose kind was tested: a number, or a fault's place.
-#[derive(Drop)]
+#[derive(Clone, Copy)]
 pub enum BusAnswer {
     Value(u64),
     Fault(u8),
 }
 
 // The connection to the access point.
-#[derive(Drop)]
+#[derive(Clone, Copy)]
 pub enum WifiState {
     Down,
     Connecting,
@@ -34,7 +35,7 @@ pub enum WifiState {
     Disconnecting,
 }
 
-#[derive(Drop)]
+#[derive(Clone, Copy)]
 pub enum WifiAuth {
     Open,
     WpaTkipPsk,
@@ -44,7 +45,7 @@ pub enum WifiAuth {
     Wpa3Wpa2AesPsk,
 }
 
-#[derive(Drop)]
+#[derive(Clone, Copy)]
 pub enum WifiConnectFailure {
     AuthFailed { status: u32, reason: u32 },
     AssocFailed { status: u32, reason: u32 },
@@ -56,20 +57,20 @@ pub enum WifiConnectFailure {
 }
 
 // `Option<WifiConnectFailure>`.
-#[derive(Drop)]
+#[derive(Clone, Copy)]
 pub enum ConnectFailure {
     None,
     Some(WifiConnectFailure),
 }
 
 // `Option<u64>`: the tick at which a disconnect began.
-#[derive(Drop)]
+#[derive(Clone, Copy)]
 pub enum StartedTick {
     None,
     Some(u64),
 }
 
-#[derive(Drop)]
+#[derive(Clone, Copy)]
 pub struct Link {
     pub state: WifiState,
     pub connect_failure: ConnectFailure,
@@ -78,40 +79,40 @@ pub struct Link {
 }
 
 // What waits in the work buffer.
-#[derive(Drop)]
+#[derive(Clone, Copy)]
 pub struct PendingBuf {
     pub offset: u16,
     pub len: u16,
 }
 
-#[derive(Drop)]
+#[derive(Clone, Copy)]
 pub struct PendingIoctlResp {
     pub buf: PendingBuf,
     pub status: i32,
 }
 
 // `Option<PendingBuf>`: a frame for `take`.
-#[derive(Drop)]
+#[derive(Clone, Copy)]
 pub enum PendingRx {
     None,
     Some(PendingBuf),
 }
 
 // `Option<PendingIoctlResp>`: a reply for the next `do_ioctl`.
-#[derive(Drop)]
+#[derive(Clone, Copy)]
 pub enum PendingResp {
     None,
     Some(PendingIoctlResp),
 }
 
-#[derive(Drop)]
+#[derive(Clone, Copy)]
 pub struct Pending {
     pub ioctl_resp: PendingResp,
     pub rx: PendingRx,
 }
 
 // The SSID's bytes are zero past its length.
-#[derive(Drop)]
+#[derive(Clone, Copy)]
 pub struct ScanRecord {
     pub ssid: [u8; 32],
     pub bssid: [u8; 6],
@@ -121,19 +122,19 @@ pub struct ScanRecord {
 }
 
 // `Vec<ScanResult, 32>`: the first `count` records are heard networks.
-#[derive(Drop)]
+#[derive(Clone, Copy)]
 pub struct ScanList {
     pub records: [ScanRecord; 32],
     pub count: usize,
 }
 
-#[derive(Drop)]
+#[derive(Clone, Copy)]
 pub struct ScanMarks {
     pub scan_done: bool,
     pub scan_in_progress: bool,
 }
 
-#[derive(Drop)]
+#[derive(Clone, Copy)]
 pub struct Sdpcm {
     pub packet_tx_seq: u8,
     pub last_bus_data_credit: u8,
@@ -142,7 +143,7 @@ pub struct Sdpcm {
     pub had_successful_packet: bool,
 }
 
-#[derive(Drop)]
+#[derive(Clone, Copy)]
 pub enum Interface {
     Sta,
     Ap,
@@ -150,7 +151,7 @@ pub enum Interface {
 }
 
 // Offsets are into the work buffer.
-#[derive(Drop)]
+#[derive(Clone, Copy)]
 pub enum SdpcmPacket {
     None,
     Control {
@@ -170,20 +171,20 @@ pub enum SdpcmPacket {
 }
 
 // What a received packet is read as; `HeaderBeyond`: an event whose header length is above its size.
-#[derive(Drop)]
+#[derive(Clone, Copy)]
 pub enum Received {
     Packet(SdpcmPacket),
     HeaderBeyond,
 }
 
-#[derive(Drop)]
+#[derive(Clone, Copy)]
 pub struct RxPacket {
     pub sdpcm: Sdpcm,
     pub received: Received,
 }
 
 // `Cyw43AsyncEvent`, with the scan result as the list keeps it.
-#[derive(Drop)]
+#[derive(Clone, Copy)]
 pub struct AsyncEvent {
     pub flags: u16,
     pub event_type: u32,
@@ -193,7 +194,7 @@ pub struct AsyncEvent {
 }
 
 // What the driver keeps between calls: `Cyw43Inner` without its bus, pins, work buffer and scan list.
-#[derive(Drop)]
+#[derive(Clone, Copy)]
 pub struct State {
     pub sdpcm: Sdpcm,
     pub pending: Pending,
@@ -202,7 +203,7 @@ pub struct State {
 }
 
 // What the driver itself ends a call with: the Rust's `DevError`s, and where the Rust panics.
-#[derive(Drop)]
+#[derive(Clone, Copy)]
 pub enum DriverError {
     InvalidArg,
     Timeout,
@@ -219,7 +220,7 @@ pub enum DriverError {
 }
 
 // After any but the driver's own error all is as it was before the call.
-#[derive(Drop)]
+#[derive(Clone, Copy)]
 pub enum Refusal {
     Driver(DriverError),
     // The next answer is not wholly recorded.
@@ -232,7 +233,7 @@ pub enum Refusal {
     BufferLength,
 }
 
-#[derive(Drop)]
+#[derive(Clone, Copy)]
 pub enum WlanPollResult {
     None,
     Rx,
@@ -240,7 +241,7 @@ pub enum WlanPollResult {
 }
 
 // What a call gives that was not refused.
-#[derive(Drop)]
+#[derive(Clone, Copy)]
 pub enum Success {
     Done,
     Polled(WlanPollResult),
@@ -251,7 +252,7 @@ pub enum Success {
     Word(u32),
 }
 
-#[derive(Drop)]
+#[derive(Clone, Copy)]
 pub enum Outcome {
     Ok(Success),
     Refused(Refusal),

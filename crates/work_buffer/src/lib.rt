@@ -1,4 +1,5 @@
 // Requests and replies in the work buffer.
+#![tactic(auto)]
 pub mod lay;
 
 ghost use Rattle.std.specs.Prelude.{◌≡◌, ◌+◌, ◌*◌, take, drop};
