@@ -1,6 +1,7 @@
 // The driver's types by value. Names are the Rust's; an `Option` is an enum of its own.
 // They stand at the root, since a proof writes a type's path out wherever it meets the type.
 #![tactic(auto)]
+
 pub mod setters;
 
 // What the driver asks of the bus, and what it is answered.

@@ -1,0 +1,18 @@
+-- i bytes of w are down.
+use borrow.Author.Rules.{rules}
+use Prim.Native.Nat.{◌-◌}
+use mathlib.Core.Path.{refl}
+use Rattle.slices.proofs.Over.{laid_none, laid_more, laid-fits}
+use Rattle.put_words.proofs.put_cut.Goals as goal
+
+pub loop-i-init : goal.loop-i-init
+loop-i-init c = (search rules, laid_none refl)
+
+pub loop-i-preserved : goal.loop-i-preserved
+loop-i-preserved c = (search rules, laid_more 0 c.loop-i.invariant.1 (search rules) refl refl c.byte_of.ensures)
+
+pub shape_of-dst : goal.shape_of-dst
+shape_of-dst c = c.loop-i.invariant.1.len
+
+pub returns : goal.returns
+returns c = laid-fits c.loop-i.invariant.1 (search rules)

@@ -1,0 +1,17 @@
+use mathlib.Core.List.{[], ◌∷◌}
+use native.Mathlib.Omega.{arith}
+use lib.ListN.{length-set}
+use Rattle.slices.proofs.Over.{stores-over}
+use Rattle.put_words.proofs.put_whole.Goals as goal
+
+pub bounds-dst-at-2 : goal.bounds-dst-at-2
+bounds-dst-at-2 c = simp length-set (omega arith)
+
+pub bounds-dst-at-3 : goal.bounds-dst-at-3
+bounds-dst-at-3 c = simp length-set (omega arith)
+
+pub bounds-dst-at-4 : goal.bounds-dst-at-4
+bounds-dst-at-4 c = simp length-set (omega arith)
+
+pub returns : goal.returns
+returns c = stores-over _ _ _ (_ ∷ _ ∷ _ ∷ [])
