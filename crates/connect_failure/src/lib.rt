@@ -1,5 +1,6 @@
 // A failed join as numbers: a tag, 0 for none, and fields, 0 where there are none.
 #![tactic(auto)]
+
 ghost use Rattle.std.specs.Prelude.{◌≡◌};
 ghost use Rattle.connect_failure.specs.Parts as to;
 

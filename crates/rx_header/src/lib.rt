@@ -1,5 +1,6 @@
 // A received packet's header, in the work buffer: it has 2,048 bytes.
 #![tactic(auto)]
+
 ghost use Rattle.std.specs.Prelude.{◌≡◌, ◌&&◌, length, ◌==◌};
 ghost use Rattle.definition.specs.Packet.{size_in, complement_in, channel_in, credit_step, is_packet, credits, accepted};
 

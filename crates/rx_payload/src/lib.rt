@@ -1,6 +1,7 @@
 // What follows a received packet's header, in the work buffer: it has 2,048 bytes, so all that a header's length can reach is there.
 // What is handed on is flat, a kind beside plain numbers.
 #![tactic(auto)]
+
 ghost use Rattle.std.specs.Prelude.{◌≡◌, length, take};
 ghost use Rattle.wlan.specs.declared.Received as received;
 ghost use Rattle.wlan.specs.declared.SdpcmPacket as packet;

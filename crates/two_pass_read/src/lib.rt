@@ -1,5 +1,6 @@
 // A read's transfer laid in two passes, as the driver did it before `bus::read::read_bytes`. It is kept to be compared and timed.
 #![tactic(auto)]
+
 ghost use Rattle.std.specs.Prelude.{◌≡◌, ◌*◌, ◌≤◌, length, take, drop};
 ghost use Rattle.slices.specs.Over.{over};
 ghost use Rattle.slices.specs.Le.{bytes_of};

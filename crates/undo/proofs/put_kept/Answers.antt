@@ -1,0 +1,6 @@
+use mathlib.Core.List.{[], ◌∷◌}
+use Rattle.slices.proofs.Over.{stores-over}
+use Rattle.undo.proofs.put_kept.Goals as goal
+
+pub returns : goal.returns
+returns c = stores-over _ 0 _ (_ ∷ [])
