@@ -1,5 +1,6 @@
 // What a recording answers to an operation.
 #![tactic(auto)]
+
 ghost use Rattle.std.specs.Prelude.{◌≡◌, List, [], ℕ, ◌+◌, ◌*◌, ◌<◌, ltb, drop, get_or};
 ghost use Rattle.slices.specs.Pick.{pick};
 ghost use Rattle.definition.specs.Bus as def;

@@ -1,5 +1,6 @@
 // What an event does to the state.
 #![tactic(auto)]
+
 ghost use Rattle.std.specs.Prelude.{◌≡◌, true, ◌+◌, ◌*◌, ◌≤◌, length, drop};
 ghost use Rattle.wlan.specs.declared.ScanRecord as scanRecord;
 ghost use Rattle.definition.specs.Event.{event_bytes, link_after, scan_end};

@@ -1,5 +1,6 @@
 // What the first call finds.
 #![tactic(auto)]
+
 ghost use Rattle.std.specs.Prelude.{◌≡◌, true, length};
 ghost use Rattle.session_bytes.specs.Session.{session_bytes, session_in, is_session};
 ghost use Rattle.fresh_session.specs.Fresh.{fresh_session};

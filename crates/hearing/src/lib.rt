@@ -1,6 +1,7 @@
 // What an event does to the scan list, where the list lies in a session's 1,393 bytes: the count from 41 on, then 32 records of
 // 42 bytes. A record is compared where it lies, and laid over its own bytes alone.
 #![tactic(auto)]
+
 pub mod result;
 
 ghost use Rattle.std.specs.Prelude.{◌≡◌, true, length};

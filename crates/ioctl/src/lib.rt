@@ -1,5 +1,6 @@
 // `do_ioctl`: where it waits for the bus, the clock of its wait, and what a reply comes to.
 #![tactic(auto)]
+
 ghost use Rattle.std.specs.Prelude.{◌≡◌};
 ghost use Rattle.ioctl.specs.Ioctl as to;
 

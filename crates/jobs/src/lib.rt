@@ -1,5 +1,6 @@
 // What a call is beside its byte arguments. How each call begins is in specs/Jobs.antt.
 #![tactic(auto)]
+
 pub mod jobs;
 
 // A call that is exchanges, with its numbers. Its byte arguments are lent beside it: SSID and passphrase, a variable's name and data.

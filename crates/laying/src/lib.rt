@@ -1,5 +1,6 @@
 // What a step lays in the work buffer; all that lies there before is kept first.
 #![tactic(auto)]
+
 ghost use Rattle.std.specs.Prelude.{◌≡◌, length};
 ghost use Rattle.control.specs.declared.Before as before;
 ghost use Rattle.control.specs.declared.Job as job;

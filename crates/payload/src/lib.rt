@@ -1,5 +1,6 @@
 // The bytes of each payload, laid from the front of what is lent, and of them what fits.
 #![tactic(auto)]
+
 ghost use Rattle.std.specs.Prelude.{◌≡◌, [], replicate};
 ghost use Rattle.slices.specs.Over.{over};
 ghost use Rattle.slices.specs.Le.{le16, le32};

@@ -1,5 +1,6 @@
 // What the parts of a session hold, read where they lie.
 #![tactic(auto)]
+
 ghost use Rattle.std.specs.Prelude.{◌≡◌, true};
 ghost use Rattle.session_bytes.specs.Session.{is_session, session_in};
 

@@ -1,5 +1,6 @@
 // `poll` on a session's bytes: where it stands, and what it does when nothing more is there or a frame came.
 #![tactic(auto)]
+
 ghost use Rattle.std.specs.Prelude.{◌≡◌, Bool, true};
 ghost use Rattle.control.specs.Poll as to;
 ghost use Rattle.session_bytes.specs.Session.{is_session, session_in};
@@ -64,16 +65,16 @@ pub fn asks(p: PollAt) -> PollNow
 
 // A poll of the device begins.
 pub fn polling(s: &[u8]) -> PollNow
-    requires { is_session (now s) ≡ true }
-    ensures { (h : Bool) → Quiet (at.NextIs result) (now s.entry) (now s.entry) h (to.polling_step (session_in (now s.entry)).st h) }
+    requires { is_session s.now ≡ true }
+    ensures { (h : Bool) → Quiet (at.NextIs result) s.now s.now h (to.polling_step (session_in s.now).st h) }
 {
     asks(poll_from(s))
 }
 
 // The tick at which a disconnect began that goes on.
 fn disconnect_tick(s: &[u8]) -> StartedTick
-    requires { is_session (now s) ≡ true }
-    ensures { result ≡ at.disconnect_tick (session_in (now s.entry)).st.link.state (session_in (now s.entry)).st.link.disconnect_started_tick }
+    requires { is_session s.now ≡ true }
+    ensures { result ≡ at.disconnect_tick (session_in s.now).st.link.state (session_in s.now).st.link.disconnect_started_tick }
 {
     let state = wifi_at(s);
     match state {
@@ -86,8 +87,8 @@ fn disconnect_tick(s: &[u8]) -> StartedTick
 
 // Nothing more is there.
 pub fn nothing(s: &mut [u8]) -> PollNow
-    requires { is_session (now s) ≡ true }
-    ensures { at.Quiets (now s.entry) (now s.exit) result (to.nothing_step (session_in (now s.entry)).st) }
+    requires { is_session s.old ≡ true }
+    ensures { at.Quiets s.old s.new result (to.nothing_step (session_in s.old).st) }
 {
     let t = disconnect_tick(s);
     match t {
@@ -98,8 +99,8 @@ pub fn nothing(s: &mut [u8]) -> PollNow
 
 // A frame below 14 bytes is dropped.
 pub fn frame(s: &mut [u8], offset: u16, len: u16) -> PollNow
-    requires { is_session (now s) ≡ true }
-    ensures { at.Quiets (now s.entry) (now s.exit) result (to.frame_step (session_in (now s.entry)).st offset len) }
+    requires { is_session s.old ≡ true }
+    ensures { at.Quiets s.old s.new result (to.frame_step (session_in s.old).st offset len) }
 {
     if len < 14 {
         return polling(s);

@@ -1,6 +1,7 @@
 // A poll of the device, on a session's bytes: where it waits, and an answer that brings no packet. What is handed on is flat, a kind
 // beside plain numbers: a compiler keeps that in registers.
 #![tactic(auto)]
+
 ghost use Rattle.std.specs.Prelude.{◌≡◌, true, false};
 ghost use Rattle.wlan.specs.State.{set_mark};
 ghost use Rattle.wlan.specs.declared.Sdpcm.{Sdpcm};

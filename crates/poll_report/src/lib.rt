@@ -1,5 +1,6 @@
 // `poll` on a session's bytes: its value at its end.
 #![tactic(auto)]
+
 ghost use Rattle.std.specs.Prelude.{◌≡◌, true};
 ghost use Rattle.wlan.specs.declared.BusAnswer.{BusAnswer};
 ghost use Rattle.control.specs.Poll as to;

@@ -1,6 +1,7 @@
 // The read routine and the one before it, for C: to be compared on one memory, and timed. 1: the words are not as many as a read of n
 // bytes transfers, or the copy is not as long as the buffer; all is then as it was.
 #![tactic(auto)]
+
 ghost use Rattle.std.specs.Prelude.{◌≡◌, ◌&&◌, ℕ, ◌<◌, eqb, length, get_or};
 ghost use Rattle.slices.specs.Pick.{pick};
 ghost use Rattle.slices.specs.Le.{bytes_of};

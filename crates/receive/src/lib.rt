@@ -1,5 +1,6 @@
 // An answer to a poll of the device, on a session's bytes; buf has what it left. A packet that came, and a reply that is stored.
 #![tactic(auto)]
+
 ghost use Rattle.std.specs.Prelude.{◌≡◌, true, length};
 ghost use Rattle.wlan.specs.declared.BusAnswer.{BusAnswer};
 ghost use Rattle.wlan.specs.declared.Sdpcm.{Sdpcm};

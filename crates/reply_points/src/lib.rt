@@ -1,5 +1,6 @@
 // `do_ioctl`: where an exchange waits, and the steps of it that lay nothing and change nothing. What is handed on is flat.
 #![tactic(auto)]
+
 ghost use Rattle.std.specs.Prelude.{◌≡◌, Bool, true, false, ℕ};
 ghost use Rattle.wlan.specs.declared.DriverError as error;
 ghost use Rattle.wlan.specs.declared.State.{State};

@@ -1,5 +1,6 @@
 // How a call ended, as numbers that go through no memory in pieces.
 #![tactic(auto)]
+
 ghost use Rattle.std.specs.Prelude.{◌≡◌};
 ghost use Rattle.wlan.specs.declared.ConnectFailure.{ConnectFailure};
 ghost use Rattle.wlan.specs.declared.DriverError.{DriverError};

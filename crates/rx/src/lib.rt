@@ -1,5 +1,6 @@
 // Received packets, in the work buffer.
 #![tactic(auto)]
+
 ghost use Rattle.std.specs.Prelude.{◌≡◌, length};
 ghost use Rattle.definition.specs.Packet.{process_rx};
 ghost use Rattle.rx.specs.Packets as to;

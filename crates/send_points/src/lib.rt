@@ -1,5 +1,6 @@
 // `sdpcm_send_common`: where a send waits, and the steps of it that lay nothing and change nothing. What is handed on is flat.
 #![tactic(auto)]
+
 ghost use Rattle.std.specs.Prelude.{◌≡◌, Bool, true};
 ghost use Rattle.wlan.specs.declared.State.{State};
 ghost use Rattle.definition.specs.Send.{free};

@@ -1,5 +1,6 @@
 // Which bytes are a session's.
 #![tactic(auto)]
+
 pub mod parts;
 
 ghost use Rattle.std.specs.Prelude.{◌≡◌};

@@ -1,5 +1,6 @@
 // State and scan list from a session's bytes.
 #![tactic(auto)]
+
 ghost use Rattle.std.specs.Prelude.{◌≡◌, true, ◌≤◌, length, take, drop};
 ghost use Rattle.session_bytes.specs.ListBytes as to;
 ghost use Rattle.session_bytes.specs.Session.{is_session, session_in};

@@ -1,5 +1,6 @@
 // A session's bytes from state and scan list.
 #![tactic(auto)]
+
 pub mod list;
 
 ghost use Rattle.std.specs.Prelude.{◌≡◌, true, length};

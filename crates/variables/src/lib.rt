@@ -1,5 +1,6 @@
 // The longer variables: country, event messages, scan, address. Each is laid from the front of what is lent, and of it what fits.
 #![tactic(auto)]
+
 ghost use Rattle.std.specs.Prelude.{◌≡◌, ◌/◌, eqb};
 ghost use Rattle.slices.specs.Pick.{pick};
 ghost use Rattle.slices.specs.Over.{over};

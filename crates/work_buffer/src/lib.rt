@@ -1,5 +1,6 @@
 // Requests and replies in the work buffer.
 #![tactic(auto)]
+
 pub mod lay;
 
 ghost use Rattle.std.specs.Prelude.{◌≡◌, ◌+◌, ◌*◌, take, drop};

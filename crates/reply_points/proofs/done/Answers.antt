@@ -1,0 +1,6 @@
+use Rattle.reply_points.specs.ReplyPoints.{next_by}
+use Rattle.reply_points.proofs.done.Goals as goal
+
+pub returns : goal.returns
+unfolding next_by
+returns c = λ h. rw (c.ended.ensures.0, c.ended.ensures.1, c.ended.ensures.2)

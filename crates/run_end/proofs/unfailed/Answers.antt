@@ -1,0 +1,5 @@
+use mathlib.Core.Path.{refl}
+use Rattle.run_end.proofs.unfailed.Goals as goal
+
+pub returns : goal.returns
+returns c = rw c.no_failure.ensures refl
