@@ -1,3 +1,4 @@
 // `take`, which asks nothing of the bus.
 #![tactic(auto)]
+
 pub mod take;

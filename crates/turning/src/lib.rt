@@ -1,5 +1,6 @@
 // What the runs of all calls share: an operation of a poll of the device, and how a run ends.
 #![tactic(auto)]
+
 ghost use Rattle.std.specs.Prelude.{◌≡◌, true, false, List, ℕ, length};
 ghost use Rattle.definition.specs.Bus.{Bytes};
 ghost use Rattle.definition.specs.Prog.{World, world};

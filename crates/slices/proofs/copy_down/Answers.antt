@@ -1,6 +1,5 @@
 -- i elements are down; what is read lies past them, as it was.
 use borrow.Author.Rules.{rules}
-use Prim.Native.Nat.{◌-◌}
 use mathlib.Core.Path.{refl, sym, ◌∙◌}
 use native.Mathlib.Omega.{arith}
 use Rattle.slices.proofs.Over.{laid_none, laid_more, laid-all, laid-past, get_or_part, length_part}

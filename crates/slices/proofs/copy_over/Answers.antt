@@ -1,6 +1,5 @@
 -- i elements of src are down.
 use borrow.Author.Rules.{rules}
-use Prim.Native.Nat.{◌-◌}
 use mathlib.Core.Path.{refl}
 use Rattle.slices.proofs.Over.{laid_none, laid_more, laid-fits}
 use Rattle.slices.proofs.copy_over.Goals as goal

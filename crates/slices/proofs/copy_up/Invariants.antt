@@ -1,5 +1,5 @@
 -- The elements from i on are down; what is read lies before them, as it was.
-use Prim.Native.Nat.{◌-◌, ◌≤◌}
+use Prim.Native.Nat.{◌≤◌}
 use lib.ListN.{take, drop}
 use Rattle.slices.proofs.Over.{Backed}
 use Rattle.slices.proofs.copy_up.Given as goal

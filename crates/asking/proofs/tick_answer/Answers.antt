@@ -1,0 +1,21 @@
+use native.Mathlib.Omega.{arith}
+use mathlib.Core.Path.{refl}
+use Rattle.effects.specs.Answer.{is_wait}
+use Rattle.wlan.specs.declared.BusOp.{BusOp}
+use Rattle.asking.proofs.Laws as law
+use Rattle.asking.proofs.tick_answer.Goals as goal
+
+pub clock_at-requires : goal.clock_at-requires
+clock_at-requires c = omega (arith, (c.begins.ensures c.if-begins.true).there)
+
+pub overflow_add-pos : goal.overflow_add-pos
+overflow_add-pos c = omega (arith, (c.begins.ensures c.if-begins.true).there)
+
+pub returns-then-begins : goal.returns-then-begins
+returns-then-begins c =
+    let a = c.args in
+    law.heard-got BusOp.ReadTick _ _ _ _ c.clock_at.result _ (rw c.clock_at.ensures (law.tick-got a.rec.now a.pos (c.begins.ensures c.if-begins.true))) c.answered.ensures
+
+pub other-requires : goal.other-requires
+unfolding is_wait
+other-requires c = refl
