@@ -1,5 +1,6 @@
 // A call from its number and its arguments as bytes. Numbers are le words.
 #![tactic(auto)]
+
 ghost use Rattle.std.specs.Prelude.{◌≡◌};
 ghost use Rattle.definition.specs.Player.{name_length, join_of, variable_of};
 ghost use Rattle.lines.specs.Input.{complete, Plain};

@@ -1,5 +1,6 @@
 // An event that came is heard by the scan list, in a session's bytes; the records are kept before that.
 #![tactic(auto)]
+
 pub mod event;
 
 ghost use Rattle.std.specs.Prelude.{◌≡◌, true, length, drop};

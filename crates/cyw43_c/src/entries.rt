@@ -13,8 +13,7 @@ use entering::take_entry::take_entered;
 use fresh_session::put_fresh;
 
 // Where the bytes have a session's length, they become a fresh session's.
-#[unsafe(no_mangle)]
-pub extern "C" fn cyw43_fresh(session: &mut [u8]) -> u32
+pub fn cyw43_fresh(session: &mut [u8]) -> u32
     ensures { (result ≡ pick (eqb (length session.old) 1393) 0 100) × (session.new ≡ pick (eqb (length session.old) 1393) (session_bytes fresh_session) session.old) }
 {
     if session.len() != 1393 {
@@ -24,8 +23,7 @@ pub extern "C" fn cyw43_fresh(session: &mut [u8]) -> u32
     0
 }
 
-#[unsafe(no_mangle)]
-pub extern "C" fn cyw43_poll(
+pub fn cyw43_poll(
     session: &mut [u8],
     undo: &mut [u8],
     rec: &[u32],
@@ -38,8 +36,7 @@ pub extern "C" fn cyw43_poll(
     poll_entered(session, undo, rec, log, buf, res)
 }
 
-#[unsafe(no_mangle)]
-pub extern "C" fn cyw43_send(
+pub fn cyw43_send(
     interface: u32,
     frame: &[u8],
     session: &mut [u8],
@@ -55,8 +52,7 @@ pub extern "C" fn cyw43_send(
 }
 
 // No recording is read, and no operation logged.
-#[unsafe(no_mangle)]
-pub extern "C" fn cyw43_take(session: &mut [u8], buf: &[u8], out: &mut [u8], res: &mut [u64]) -> u32
+pub fn cyw43_take(session: &mut [u8], buf: &[u8], out: &mut [u8], res: &mut [u64]) -> u32
     ensures { (rec log : List ℕ) → shown result session.new log buf.now out.new res.new ≡ entered (Call.get_rx_buf (length out.old)) session.old rec log buf.now out.old res.old }
 {
     take_entered(session, buf, out, res)

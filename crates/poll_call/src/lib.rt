@@ -1,5 +1,6 @@
 // `poll` over its recording, on a session's bytes.
 #![tactic(auto)]
+
 ghost use Rattle.std.specs.Prelude.{◌≡◌, true, false, ◌≤◌, ◌<◌, length, drop};
 ghost use Rattle.definition.specs.Bus.{Bytes};
 ghost use Rattle.definition.specs.Prog.{World};

@@ -1,5 +1,6 @@
 // `poll` on a session's bytes: what it does with an answer. buf has what the answer left.
 #![tactic(auto)]
+
 ghost use Rattle.std.specs.Prelude.{◌≡◌, true, length};
 ghost use Rattle.wlan.specs.declared.AsyncEvent.{AsyncEvent};
 ghost use Rattle.wlan.specs.declared.BusAnswer.{BusAnswer};

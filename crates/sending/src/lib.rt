@@ -1,6 +1,7 @@
 // `sdpcm_send_common` on a session's bytes: its beginning, and its step at any point. buf has what an answer left; a header is laid
 // there at once, and kept before that.
 #![tactic(auto)]
+
 ghost use Rattle.std.specs.Prelude.{◌≡◌, Bool, true, length, drop};
 ghost use Rattle.slices.specs.Over.{over};
 ghost use Rattle.wlan.specs.declared.AsyncEvent.{AsyncEvent};

@@ -1,5 +1,6 @@
 // How each call begins on a session's bytes: its first request, or that it is over without one. Of byte arguments only the lengths are looked at.
 #![tactic(auto)]
+
 pub mod bytes;
 pub mod calls;
 pub mod kinds;

@@ -1,5 +1,6 @@
 // `take` on a session's bytes where they lie. It asks nothing of the bus and leaves the scan list.
 #![tactic(auto)]
+
 ghost use Rattle.std.specs.Prelude.{◌≡◌, true, List, ℕ, length};
 ghost use Rattle.wlan.specs.declared.Outcome.{Outcome};
 ghost use Rattle.wlan.specs.declared.Refusal.{Refusal};

@@ -8,46 +8,22 @@ pub returns-in-Interrupt-clause-asks : goal.returns-in-Interrupt-clause-asks
 unfolding poll_op point_by
 returns-in-Interrupt-clause-asks c = simp c.in-Interrupt.is (c.ask_interrupt.ensures c.args.buf.now)
 
-pub returns-in-Interrupt-clause-kept : goal.returns-in-Interrupt-clause-kept
-unfolding poll_op point_by
-returns-in-Interrupt-clause-kept c = simp c.in-Interrupt.is (still_kept c.requires.kept_2 refl)
-
 pub returns-in-Acknowledge-clause-asks : goal.returns-in-Acknowledge-clause-asks
 unfolding poll_op point_by
 returns-in-Acknowledge-clause-asks c = simp c.in-Acknowledge.is (c.ask_interrupt_write.ensures c.args.buf.now)
-
-pub returns-in-Acknowledge-clause-kept : goal.returns-in-Acknowledge-clause-kept
-unfolding poll_op point_by
-returns-in-Acknowledge-clause-kept c = simp c.in-Acknowledge.is (still_kept c.requires.kept_2 refl)
 
 pub returns-in-Status-clause-asks : goal.returns-in-Status-clause-asks
 unfolding poll_op point_by
 returns-in-Status-clause-asks c = simp c.in-Status.is (c.ask_status.ensures c.args.buf.now)
 
-pub returns-in-Status-clause-kept : goal.returns-in-Status-clause-kept
-unfolding poll_op point_by
-returns-in-Status-clause-kept c = simp c.in-Status.is (still_kept c.requires.kept_2 refl)
-
 pub returns-in-Waited-clause-asks : goal.returns-in-Waited-clause-asks
 unfolding poll_op point_by
 returns-in-Waited-clause-asks c = simp c.in-Waited.is (c.ask_wait.ensures c.args.rec.now c.args.buf.now)
-
-pub returns-in-Waited-clause-kept : goal.returns-in-Waited-clause-kept
-unfolding poll_op point_by
-returns-in-Waited-clause-kept c = simp c.in-Waited.is (still_kept c.requires.kept_2 refl)
 
 pub returns-in-FrameControl-clause-asks : goal.returns-in-FrameControl-clause-asks
 unfolding poll_op point_by
 returns-in-FrameControl-clause-asks c = simp c.in-FrameControl.is (c.ask_frame_control.ensures c.args.buf.now)
 
-pub returns-in-FrameControl-clause-kept : goal.returns-in-FrameControl-clause-kept
-unfolding poll_op point_by
-returns-in-FrameControl-clause-kept c = simp c.in-FrameControl.is (still_kept c.requires.kept_2 refl)
-
 pub returns-in-Packet-clause-asks : goal.returns-in-Packet-clause-asks
 unfolding poll_op point_by
 returns-in-Packet-clause-asks c = simp c.in-Packet.is c.ask_packet.ensures.asks
-
-pub returns-in-Packet-clause-kept : goal.returns-in-Packet-clause-kept
-unfolding poll_op point_by
-returns-in-Packet-clause-kept c = simp c.in-Packet.is c.ask_packet.ensures.kept

@@ -1,0 +1,8 @@
+use Rattle.arguments.proofs.Numbered.{gpio-is, gpio-bad}
+use Rattle.arguments.proofs.gpio.Goals as goal
+
+pub returns-then-args-eq8 : goal.returns-then-args-eq8
+returns-then-args-eq8 c = gpio-is c.args.args.now c.get_le32.ensures c.get_le32-then-args-eq8.ensures c.if-args-eq8.true
+
+pub returns : goal.returns
+returns c = gpio-bad c.args.args.now c.if-args-eq8.false
