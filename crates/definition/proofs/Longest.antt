@@ -3,6 +3,8 @@ pub mod Most
 pub mod Pays
 pub mod Words
 pub mod Runs
+pub mod Status
+pub mod Interrupt
 pub mod Poll
 pub mod Reached
 use mathlib.Core.List.{List}

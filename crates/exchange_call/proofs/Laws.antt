@@ -3,8 +3,6 @@ use Prim.Native.Nat.{ℕ, ◌+◌, ◌-◌, ◌<◌, ◌≤◌}
 use mathlib.Core.Path.{◌≡◌, refl, ap, ◌∙◌}
 use mathlib.Core.Bool.{Bool, true, false}
 use mathlib.Core.List.{List, [], ◌∷◌}
-use types.Run.{OneOf, miss}
-use denote.Enum.Declared.{tag_of}
 use native.Mathlib.Omega.{arith}
 use lib.ListN.{length, drop}
 use Rattle.slices.specs.Pick.{pick}
@@ -41,7 +39,6 @@ use Rattle.reply_points.specs.declared.IoctlNow.{IoctlNow}
 use Rattle.reply_points.specs.ReplyPoints as reply
 use Rattle.exchanging.specs.declared.now.CallKind.{CallKind}
 use Rattle.exchanging.specs.declared.now.CallNow.{CallNow}
-use Rattle.exchanging.specs.contracts.now.CallKind.{the_type}
 use Rattle.plans.specs.declared.PauseKind.{PauseKind}
 use Rattle.plans.specs.declared.Plan.{Plan}
 use Rattle.plans.specs.Plans as plan
@@ -155,29 +152,23 @@ module _ (x : Args) (m : Modest x) (q : CallPoint) {rec log₀ log : List ℕ} {
 
 -- ---- the clock, the tick and the waits
 
-abbrev keys-waits : List ℕ
-keys-waits = 0 ∷ 1 ∷ 4 ∷ 5 ∷ []
-
-pub waits : (p : PauseKind) (ns : ℕ) (k : CallKind) → OneOf keys-waits (tag_of the_type k) → to.point_by k p ns ≡ CallPoint.Pause (plan.pause_by p ns)
+pub waits : (p : PauseKind) (ns : ℕ) (k : CallKind) → (k ≡ CallKind.Clock → ⊥) → (k ≡ CallKind.Tick → ⊥) → to.point_by k p ns ≡ CallPoint.Pause (plan.pause_by p ns)
 unfolding to.point_by
-waits p ns CallKind.Exchange h = refl
-waits p ns CallKind.Pause h = refl
-waits p ns CallKind.Clock h = absurd (miss keys-waits 2 tt h)
-waits p ns CallKind.Tick h = absurd (miss keys-waits 3 tt h)
-waits p ns CallKind.Ended h = refl
-waits p ns CallKind.Refused h = refl
+waits p ns CallKind.Exchange a b = refl
+waits p ns CallKind.Pause a b = refl
+waits p ns CallKind.Clock a b = absurd (a refl)
+waits p ns CallKind.Tick a b = absurd (b refl)
+waits p ns CallKind.Ended a b = refl
+waits p ns CallKind.Refused a b = refl
 
-abbrev keys-asks : List ℕ
-keys-asks = 1 ∷ 2 ∷ 3 ∷ []
-
-pub asks : (n : CallNow) (k : CallKind) → OneOf keys-asks (tag_of the_type k) → at.next_by k n ≡ CallNext.Ask (to.point_by k n.pause n.ns)
+pub asks : (n : CallNow) (k : CallKind) → (k ≡ CallKind.Exchange → ⊥) → (k ≡ CallKind.Ended → ⊥) → (k ≡ CallKind.Refused → ⊥) → at.next_by k n ≡ CallNext.Ask (to.point_by k n.pause n.ns)
 unfolding to.point_by at.next_by
-asks n CallKind.Exchange h = absurd (miss keys-asks 0 tt h)
-asks n CallKind.Pause h = refl
-asks n CallKind.Clock h = refl
-asks n CallKind.Tick h = refl
-asks n CallKind.Ended h = absurd (miss keys-asks 4 tt h)
-asks n CallKind.Refused h = absurd (miss keys-asks 5 tt h)
+asks n CallKind.Exchange a b d = absurd (a refl)
+asks n CallKind.Pause a b d = refl
+asks n CallKind.Clock a b d = refl
+asks n CallKind.Tick a b d = refl
+asks n CallKind.Ended a b d = absurd (b refl)
+asks n CallKind.Refused a b d = absurd (d refl)
 
 -- ---- the loop of a call
 

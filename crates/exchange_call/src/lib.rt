@@ -1,5 +1,6 @@
 // A call's exchanges over its recording, on a session's bytes: the loop over the exchanges.
 #![tactic(auto)]
+
 ghost use Rattle.std.specs.Prelude.{◌≡◌, true, false, List, [], ℕ, ◌+◌, ◌<◌, ◌≤◌, length, drop};
 ghost use Rattle.wlan.specs.declared.BusAnswer as answer;
 ghost use Rattle.wlan.specs.declared.Outcome.{Outcome};

@@ -1,5 +1,6 @@
 // An exchange over its recording, on a session's bytes: the loop over its operations.
 #![tactic(auto)]
+
 pub mod asks;
 
 ghost use Rattle.std.specs.Prelude.{◌≡◌, true, false, ◌<◌, ◌≤◌, length};

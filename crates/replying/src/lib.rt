@@ -1,5 +1,6 @@
 // `do_ioctl` on a session's bytes: its beginning, and its step at any point. buf has what an answer left; the send lays its header there.
 #![tactic(auto)]
+
 ghost use Rattle.std.specs.Prelude.{◌≡◌, Bool, true, false, length};
 ghost use Rattle.wlan.specs.declared.AsyncEvent.{AsyncEvent};
 ghost use Rattle.wlan.specs.declared.BusAnswer.{BusAnswer};

@@ -1,5 +1,6 @@
 // `send_data` over its recording, on a session's bytes.
 #![tactic(auto)]
+
 pub mod asks;
 
 ghost use Rattle.std.specs.Prelude.{◌≡◌, true, false, List, [], ℕ, ◌≤◌, ◌<◌, length, drop};

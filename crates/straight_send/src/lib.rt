@@ -1,6 +1,7 @@
 // A send that nothing refuses any more: the credit is there, both answers are recorded, the device is ready and the log has room. So
 // nothing is to be put back, and nothing is kept.
 #![tactic(auto)]
+
 ghost use Rattle.std.specs.Prelude.{◌≡◌, true, false, List, [], ℕ, ◌+◌, ◌≤◌, ◌<◌, eqb, length, drop};
 ghost use Rattle.std.specs.Int.Bits.{bit_and};
 ghost use Rattle.slices.specs.Over.{over};

@@ -7,9 +7,6 @@ use Rattle.poll_call.proofs.poll_on.Goals as goal
 pub loop-t-init : goal.loop-t-init
 loop-t-init c = record { log-len = refl; buf-len = c.requires.buf_len; session-len = refl; undo-len = refl; held = c.requires.s_value; kept = record { kept = c.requires.kept_2; session = refl; buf = refl }; room = c.requires.len_in_bounds; turns = λ e x h. h }
 
-pub poll_turn-t-requires : goal.poll_turn-t-requires
-poll_turn-t-requires c = (c.loop-t.invariant.held, (c.loop-t.invariant.kept.kept, c.loop-t.invariant.buf-len))
-
 pub loop-t-smaller : goal.loop-t-smaller
 loop-t-smaller c = left_less c.args.log.now c.poll_turn-t.result c.loop-t.t c.loop-t-test.true (c.loop-t.invariant.room c.loop-t-test.true) (λ t. rw c.loop-t.invariant.log-len at (c.poll_turn-t.ensures.grew t))
 

@@ -16,27 +16,24 @@ use Rattle.poll_call.proofs.poll_turn.Goals as goal
 
 pub returns-then-is_back : goal.returns-then-is_back
 unfolding call_tree call_op
-returns-then-is_back c = let k = c.device_ask-a.ensures.kept in record { on = λ e. let q = CallPoint.Poll (point_of c.args.p) in over-turns e _ c.args.rec.now c.device_ask-a.new.log c.args.s.now c.device_ask-a.new.buf _ c.over.ensures.0 c.over.ensures.1 (law.asked-back (poll_op (point_of c.args.p)) c.device_ask-a.result c.device_ask-a.ensures.asks e (secret_at to.no_args q) (λ y. Kc to.no_args q y (turning.world_in c.args.s.now c.args.buf.now)) c.args.s.now c.back_end.result (λ on. c.back_end.ensures e on c.device_ask-a.new.log c.args.s.now c.device_ask-a.new.buf (sym c.is_back.ensures ∙ c.if-is_back.true))); held = c.requires.s_value; kept = record { kept = k.kept; session = k.session c.args.s.now; buf = k.buf }; grew = λ t. absurd (true≢false (sym t ∙ c.over.ensures.0)) }
+returns-then-is_back c = record { on = λ e. let q = CallPoint.Poll (point_of c.args.p) in over-turns e _ c.args.rec.now c.device_ask-a.new.log c.args.s.now c.device_ask-a.new.buf _ c.over.ensures.0 c.over.ensures.1 (law.asked-back (poll_op (point_of c.args.p)) c.device_ask-a.result c.device_ask-a.ensures.asks e (secret_at to.no_args q) (λ y. Kc to.no_args q y (turning.world_in c.args.s.now c.args.buf.now)) c.args.s.now c.back_end.result (λ on. c.back_end.ensures e on c.device_ask-a.new.log c.args.s.now c.device_ask-a.new.buf (sym c.is_back.ensures ∙ c.if-is_back.true))); held = c.requires.s_value; kept = record { kept = c.device_ask-a.ensures.kept.kept; session = c.device_ask-a.ensures.kept.session c.args.s.now; buf = c.device_ask-a.ensures.kept.buf }; grew = λ t. absurd (true≢false (sym t ∙ c.over.ensures.0)) }
 
 pub returns-then-a : goal.returns-then-a
 unfolding call_tree call_op
-returns-then-a c = let k = c.device_ask-a.ensures.kept in record { on = λ e. let q = CallPoint.Poll (point_of c.args.p) in over-turns e _ c.args.rec.now c.device_ask-a.new.log c.args.s.now c.device_ask-a.new.buf _ c.over-then-a.ensures.0 (c.over-then-a.ensures.1 ∙ c.fault_end.ensures) (law.asked-fault (poll_op (point_of c.args.p)) c.device_ask-a.result c.device_ask-a.ensures.asks e (secret_at to.no_args q) (λ y. Kc to.no_args q y (turning.world_in c.args.s.now c.args.buf.now)) c.args.s.now (law.not_back _ (sym c.is_back.ensures ∙ c.if-is_back.false)) c.if-a.true (λ y hv i hb. poll-faults c.args.p y c.args.buf.now c.device_ask-a.new.buf i hb e (drop c.device_ask-a.result.pos c.args.rec.now) c.device_ask-a.new.log c.device_ask-a.result.len c.args.s.now c.device_ask-a.result.value hv)); held = c.requires.s_value; kept = record { kept = k.kept; session = k.session c.args.s.now; buf = k.buf }; grew = λ t. absurd (true≢false (sym t ∙ c.over-then-a.ensures.0)) }
-
-pub poll_answer-n-requires : goal.poll_answer-n-requires
-poll_answer-n-requires c = (c.requires.s_value, (c.device_ask-a.ensures.kept.kept, omega (arith, c.requires.buf_len, (goal.at.poll_answer-n-requires c).After-slice_known-7-1)))
+returns-then-a c = record { on = λ e. let q = CallPoint.Poll (point_of c.args.p) in over-turns e _ c.args.rec.now c.device_ask-a.new.log c.args.s.now c.device_ask-a.new.buf _ c.over-then-a.ensures.0 (c.over-then-a.ensures.1 ∙ c.fault_end.ensures) (law.asked-fault (poll_op (point_of c.args.p)) c.device_ask-a.result c.device_ask-a.ensures.asks e (secret_at to.no_args q) (λ y. Kc to.no_args q y (turning.world_in c.args.s.now c.args.buf.now)) c.args.s.now (law.not_back _ (sym c.is_back.ensures ∙ c.if-is_back.false)) c.if-a.true (λ y hv i hb. poll-faults c.args.p y c.args.buf.now c.device_ask-a.new.buf i hb e (drop c.device_ask-a.result.pos c.args.rec.now) c.device_ask-a.new.log c.device_ask-a.result.len c.args.s.now c.device_ask-a.result.value hv)); held = c.requires.s_value; kept = record { kept = c.device_ask-a.ensures.kept.kept; session = c.device_ask-a.ensures.kept.session c.args.s.now; buf = c.device_ask-a.ensures.kept.buf }; grew = λ t. absurd (true≢false (sym t ∙ c.over-then-a.ensures.0)) }
 
 pub poll_now-requires : goal.poll_now-requires
 poll_now-requires c = c.poll_answer-n.ensures.held.known
 
 pub shape_of-undo : goal.shape_of-undo
-shape_of-undo c = omega (arith, (goal.at.shape_of-undo c).After-poll_now, (goal.at.shape_of-undo c).After-slice_known-7-1)
+shape_of-undo c = omega (arith)
 
 pub shape_of-log : goal.shape_of-log
-shape_of-log c = omega (arith, (goal.at.shape_of-log c).After-poll_now, (goal.at.shape_of-log c).After-slice_known-7-1)
+shape_of-log c = omega (arith)
 
 pub shape_of-buf : goal.shape_of-buf
-shape_of-buf c = omega (arith, (goal.at.shape_of-buf c).After-poll_now, (goal.at.shape_of-buf c).After-slice_known-7-1)
+shape_of-buf c = omega (arith)
 
 pub returns : goal.returns
 unfolding call_tree call_op
-returns c = let n = law.not_back _ (sym c.is_back.ensures ∙ c.if-is_back.false) in let k = c.device_ask-a.ensures.kept in let m = c.poll_answer-n.ensures.kept in let w = c.poll_now.ensures.held in record { on = λ e. let q = CallPoint.Poll (point_of c.args.p) in law.asked-value (poll_op (point_of c.args.p)) c.device_ask-a.result c.device_ask-a.ensures.asks e (secret_at to.no_args q) (λ y. Kc to.no_args q y (turning.world_in c.args.s.now c.args.buf.now)) c.args.s.now (λ (x : End). to.Turns e x c.args.rec.now c.poll_now.result c.poll_now.new.log c.poll_now.new.s c.device_ask-a.new.buf) n c.if-a.false (λ y hv i hb. rw (poll-steps c.args.p y c.args.buf.now c.device_ask-a.new.buf i hb e (drop c.device_ask-a.result.pos c.args.rec.now) c.device_ask-a.new.log c.device_ask-a.result.len c.args.s.now c.device_ask-a.result.value hv c.poll_answer-n.ensures) at (c.poll_now.ensures.on e c.device_ask-a.new.buf _ c.poll_answer-n.ensures.next)); held = w.0.known; kept = record { kept = m.kept; session = w.0.back _ m.kept ∙ m.session ∙ k.session c.args.s.now; buf = m.buf _ ∙ k.buf }; grew = λ t. let g = law.asked-grew c.device_ask-a.ensures.asks n in let l = w.1 t in (omega (arith, g.0, l), omega (arith, g.1, l)) }
+returns c = let n = law.not_back _ (sym c.is_back.ensures ∙ c.if-is_back.false) in let m = c.poll_answer-n.ensures.kept in record { on = λ e. let q = CallPoint.Poll (point_of c.args.p) in law.asked-value (poll_op (point_of c.args.p)) c.device_ask-a.result c.device_ask-a.ensures.asks e (secret_at to.no_args q) (λ y. Kc to.no_args q y (turning.world_in c.args.s.now c.args.buf.now)) c.args.s.now (λ (x : End). to.Turns e x c.args.rec.now c.poll_now.result c.poll_now.new.log c.poll_now.new.s c.device_ask-a.new.buf) n c.if-a.false (λ y hv i hb. rw (poll-steps c.args.p y c.args.buf.now c.device_ask-a.new.buf i hb e (drop c.device_ask-a.result.pos c.args.rec.now) c.device_ask-a.new.log c.device_ask-a.result.len c.args.s.now c.device_ask-a.result.value hv c.poll_answer-n.ensures) at (c.poll_now.ensures.on e c.device_ask-a.new.buf _ c.poll_answer-n.ensures.next)); held = c.poll_now.ensures.held.known; kept = record { kept = m.kept; session = c.poll_now.ensures.held.back _ m.kept ∙ m.session ∙ c.device_ask-a.ensures.kept.session c.args.s.now; buf = m.buf _ ∙ c.device_ask-a.ensures.kept.buf }; grew = λ t. let g = law.asked-grew c.device_ask-a.ensures.asks n in let l = c.poll_now.ensures.grew t in (omega (arith, g.0, l), omega (arith, g.1, l)) }

@@ -1,0 +1,15 @@
+use Rattle.wlan.specs.declared.BusAnswer.{BusAnswer}
+use Rattle.wlan.specs.declared.State.{State}
+use Rattle.device.specs.Poll.{poll_op}
+use Rattle.device.specs.Meaning.{arrival_at}
+use Rattle.ioctl.specs.Ioctl.{reply_next, reply_poll}
+use Rattle.session_bytes.specs.Session.{session_in}
+use Rattle.poll_points.specs.PollPoints.{point_of}
+use Rattle.receive.specs.Receive.{polled_at}
+use Rattle.receive.proofs.Laws.{polled-tells}
+use Rattle.replying.proofs.Laws.{moved}
+use Rattle.replying.proofs.reply_poll.Goals as goal
+
+pub returns : goal.returns
+unfolding reply_poll
+returns c = let b = c.args.buf.now in let t = (session_in c.args.s.now).st.sdpcm in let p = point_of c.args.q in let x = BusAnswer.Value c.args.v in let e = (arrival_at (poll_op p) b t).event in moved e (λ (s : State). reply_next s c.args.len c.args.t0 e (polled_at t p x b).next) c.requires.kept c.requires.s_value c.poll_device-r.ensures.held (rw c.poll_device-r.ensures.next at (c.reply_next.ensures e (rw c.poll_device-r.ensures.next (polled-tells t p x b))))
