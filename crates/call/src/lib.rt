@@ -1,5 +1,6 @@
 // A call by value: state and scan list go into a session's bytes, the call runs on them, and they are read from the bytes again.
 #![tactic(auto)]
+
 ghost use Rattle.std.specs.Prelude.{◌≡◌, true, List, [], ℕ};
 ghost use Rattle.wlan.specs.declared.Outcome as outcome;
 ghost use Rattle.wlan.specs.declared.Refusal as refusal;

@@ -21,7 +21,7 @@ use Rattle.going.specs.declared.CallEnd.{CallEnd}
 use Rattle.going.specs.Onward as onward
 use Rattle.going.proofs.Going.{run_ret, run-stop}
 use Rattle.definition.specs.History.{Given, end_of}
-use Rattle.chains.specs.Chain.{Lent, Entry, Exit, Ran, wifi_init, wifi_scan, wifi_connect, wifi_disconnect, wifi_abort_connect, wifi_poll, send_data, get_rx_buf, gpio_set, get_mac_addr, get_ioctl, set_ioctl, write_iovar, up, after, Chain, none, more}
+use Rattle.chains.specs.Chain.{Lent, LentMut, Entry, Exit, Ran, wifi_init, wifi_scan, wifi_connect, wifi_disconnect, wifi_abort_connect, wifi_poll, send_data, get_rx_buf, gpio_set, get_mac_addr, get_ioctl, set_ioctl, write_iovar, up, after, Chain, none, more}
 
 -- ---- what a function can be given
 
@@ -58,8 +58,11 @@ pub data Callable : List Given → Type 0 where
 abbrev lend : List ℕ → Lent
 lend l = record { ref_ptr = (0, 0); now = l }
 
+abbrev lend_mut : List ℕ → LentMut
+lend_mut l = record { ref_ptr = (0, 0); ghost_name = 0; now = l }
+
 abbrev entry : List ℕ → List ℕ → World → Entry
-entry rec log w = record { st = w.st; list = w.list; rec = lend rec; log = lend log; buf = lend w.buf }
+entry rec log w = record { st = w.st; list = w.list; rec = lend rec; log = lend_mut log; buf = lend_mut w.buf }
 
 abbrev result : End → CallEnd
 result e = record { outcome = e.outcome; st = e.st; list = e.list; len = e.len }
@@ -67,7 +70,7 @@ result e = record { outcome = e.outcome; st = e.st; list = e.list; len = e.len }
 abbrev exit : Given → World → Exit
 exit g w =
     let e = end_of g w in
-    record { result = result e; log = lend e.log; buf = lend e.buf }
+    record { result = result e; log = lend_mut e.log; buf = lend_mut e.buf }
 
 -- any lifetimes will do
 abbrev two : Lfts 2
@@ -139,7 +142,7 @@ quiet-shown b log out r o k = rw (o, k, over-nil)
 took : (out : Bytes) (w : World) → Ran (take out) w (onward.end_of (result (end_of (take out) w)) [] w.buf (end_of (take out) w).output)
 unfolding called run_of
 took out w =
-    get_rx_buf two w.st w.list (lend w.buf) (lend out) (lend (end_of (take out) w).output) (result (end_of (take out) w))
+    get_rx_buf two w.st w.list (lend w.buf) (lend_mut out) (lend_mut (end_of (take out) w).output) (result (end_of (take out) w))
     (λ rec log. rw (q.is (answers rec) (length log), q.is (answers []) 0) (quiet-shown w.buf log out q.run q.silent q.kept))
   where
     q : Quiet w.buf (λ l room. pick (eqb (length w.buf) 2048) (run w l room (call (Call.get_rx_buf (length out)) w)) (rolled_back Refusal.BufferLength w))

@@ -2,7 +2,7 @@
 -- `Post`, which Rattle makes of a function's `ensures`, is that relation: lifetimes, parameters, result, parameters at exit.
 use Rattle.std.specs.Prelude.{List, [], ◌∷◌, ℕ, length}
 use contract.Lifetimes.{Lfts}
-use Rattle.std.specs.Borrow.{Bor}
+use Rattle.std.specs.Borrow.{Bor, MutBor}
 use Rattle.wlan.specs.declared.ScanList.{ScanList}
 use Rattle.wlan.specs.declared.State.{State}
 use Rattle.definition.specs.Prog.{World, world}
@@ -32,25 +32,29 @@ use Rattle.cyw43.proofs.ioctls.up.Reads as set-up
 abbrev pub Lent : Type 0
 Lent = Bor (List ℕ)
 
+-- one lent to be written
+abbrev pub LentMut : Type 0
+LentMut = MutBor (List ℕ)
+
 -- what every call but take is handed beside its arguments
 pub record Entry : Type 0 where
   pub st : State
   pub list : ScanList
   pub rec : Lent
-  pub log : Lent
-  pub buf : Lent
+  pub log : LentMut
+  pub buf : LentMut
 
 -- what it leaves
 pub record Exit : Type 0 where
   pub result : CallEnd
-  pub log : Lent
-  pub buf : Lent
+  pub log : LentMut
+  pub buf : LentMut
 
 -- its last five parameters at entry, and at exit
-abbrev pub ins : Entry → State × (ScanList × (Lent × (Lent × (Lent × Unit {0}))))
+abbrev pub ins : Entry → State × (ScanList × (Lent × (LentMut × (LentMut × Unit {0}))))
 ins x = (x.st, (x.list, (x.rec, (x.log, (x.buf, tt)))))
 
-abbrev pub outs : Entry → Exit → State × (ScanList × (Lent × (Lent × (Lent × Unit {0}))))
+abbrev pub outs : Entry → Exit → State × (ScanList × (Lent × (LentMut × (LentMut × Unit {0}))))
 outs x y = (x.st, (x.list, (x.rec, (y.log, (y.buf, tt)))))
 
 abbrev pub given : Call → Entry → Given
@@ -63,7 +67,7 @@ abbrev pub after : Exit → End
 after y = end_of y.result y.log.now y.buf.now []
 
 -- take has neither recording nor log
-abbrev pub taking : Lent → Given
+abbrev pub taking : LentMut → Given
 taking out = record { call = Call.get_rx_buf (length out.now); recording = []; log = []; output = out.now }
 
 -- an exported function, called with what is given in a world, has left an end: its own contract says so
@@ -84,7 +88,7 @@ pub data Ran : Given → World → End → Type 0 where
   send_data : (κs : Lfts 4) (interface : ℕ) (frame : Lent) (x : Entry) (y : Exit)
       → send-data.Post κs (interface, (frame, ins x)) y.result (interface, (frame, outs x y))
       → Ran (given (Call.send_data interface frame.now) x) (before x) (after y)
-  get_rx_buf : (κs : Lfts 2) (st : State) (list : ScanList) (buf out out' : Lent) (r : CallEnd)
+  get_rx_buf : (κs : Lfts 2) (st : State) (list : ScanList) (buf : Lent) (out out' : LentMut) (r : CallEnd)
       → get-rx-buf.Post κs (st, (list, (buf, (out, tt)))) r (st, (list, (buf, (out', tt))))
       → Ran (taking out) (world st buf.now list) (end_of r [] buf.now out'.now)
   gpio_set : (κs : Lfts 3) (pin level : ℕ) (x : Entry) (y : Exit)

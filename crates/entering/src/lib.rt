@@ -1,5 +1,6 @@
 // A C entry's call in place: on the session's bytes where they lie, with what roll-back needs in lent memory.
 #![tactic(auto)]
+
 pub mod exchange_entry;
 pub mod poll_entry;
 pub mod send_entry;

@@ -1,5 +1,6 @@
 // A call as a value, and its run on a list by value.
 #![tactic(auto)]
+
 ghost use Rattle.std.specs.Prelude.{◌≡◌, length};
 ghost use Rattle.slices.specs.Pick.{pick};
 ghost use Rattle.definition.specs.Prog.{world};

@@ -1,7 +1,7 @@
 -- 'The longest log a poll can leave', of the C entry: what `cyw43_poll` returns and leaves, as its own contract states it.
 use Rattle.std.specs.Prelude.{◌≡◌, List, ℕ, ◌≤◌, length, get_or}
 use contract.Lifetimes.{Lfts}
-use Rattle.std.specs.Borrow.{Bor}
+use Rattle.std.specs.Borrow.{Bor, MutBor}
 use Rattle.definition.specs.Longest.{most}
 use Rattle.cyw43_c.proofs.entries.cyw43_poll.Reads as cyw43-poll
 
@@ -9,16 +9,20 @@ use Rattle.cyw43_c.proofs.entries.cyw43_poll.Reads as cyw43-poll
 abbrev pub Lent : Type 0
 Lent = Bor (List ℕ)
 
+-- one lent to be written
+abbrev pub LentMut : Type 0
+LentMut = MutBor (List ℕ)
+
 -- what a board lends
 pub record Slices : Type 0 where
-  pub session : Lent
-  pub undo : Lent
+  pub session : LentMut
+  pub undo : LentMut
   pub rec : Lent
-  pub log : Lent
-  pub buf : Lent
-  pub result : Lent
+  pub log : LentMut
+  pub buf : LentMut
+  pub result : LentMut
 
-abbrev pub lent : Slices → Lent × (Lent × (Lent × (Lent × (Lent × (Lent × Unit {0})))))
+abbrev pub lent : Slices → LentMut × (LentMut × (Lent × (LentMut × (LentMut × (LentMut × Unit {0})))))
 lent x = (x.session, (x.undo, (x.rec, (x.log, (x.buf, (x.result, tt))))))
 
 -- the entry, called with x, has returned r and left y

@@ -1,0 +1,20 @@
+use mathlib.Core.Path.{sym, ◌∙◌}
+use lib.ListN.{length}
+use Rattle.jobs.specs.Jobs.{call_of}
+use Rattle.entering.proofs.Laws as law
+use Rattle.entering.proofs.exchange_entry.exchange_entered.Goals as goal
+
+pub returns-then-undo-ne3444 : goal.returns-then-undo-ne3444
+returns-then-undo-ne3444 c = law.entered-other (call_of c.args.c c.args.a.now c.args.b.now) c.args.session.now c.args.rec.now c.args.log.now c.args.res.now c.args.buf.now (length c.args.undo.now) _ _ (sym c.is_session.ensures ∙ c.if-is_session.true) c.if-undo-ne3444.true c.other_length.ensures.0 c.other_length.ensures.1
+
+pub returns-then-buf-ne2048 : goal.returns-then-buf-ne2048
+returns-then-buf-ne2048 c = law.entered-buffer (call_of c.args.c c.args.a.now c.args.b.now) c.args.session.now c.args.rec.now c.args.log.now c.args.res.now c.args.buf.now (length c.args.undo.now) _ _ (sym c.is_session.ensures ∙ c.if-is_session.true) c.if-undo-ne3444.false c.if-buf-ne2048.true c.other_length-then-buf-ne2048.ensures.0 c.other_length-then-buf-ne2048.ensures.1
+
+pub exchange_here-requires : goal.exchange_here-requires
+exchange_here-requires c = record { session_value = sym c.is_session.ensures ∙ c.if-is_session.true; undo_len = c.if-undo-ne3444.false; buf_len = c.if-buf-ne2048.false }
+
+pub returns-then-is_session : goal.returns-then-is_session
+returns-then-is_session c = c.exchange_here.ensures ∙ law.entered_here (call_of c.args.c c.args.a.now c.args.b.now) c.args.session.now c.args.rec.now c.args.log.now c.args.res.now c.args.buf.now (length c.args.undo.now) (sym c.is_session.ensures ∙ c.if-is_session.true) c.if-undo-ne3444.false
+
+pub returns : goal.returns
+returns c = law.entered-none (call_of c.args.c c.args.a.now c.args.b.now) c.args.session.now c.args.rec.now c.args.log.now c.args.res.now c.args.buf.now (length c.args.undo.now) (sym c.is_session.ensures ∙ c.if-is_session.false)
