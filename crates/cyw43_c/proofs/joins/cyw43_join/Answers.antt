@@ -1,0 +1,6 @@
+use Rattle.jobs.specs.Jobs.{call_of}
+use Rattle.cyw43_c.proofs.joins.cyw43_join.Goals as goal
+
+pub returns : goal.returns
+unfolding call_of
+returns c = c.exchange_entered.ensures

@@ -1,0 +1,6 @@
+use Rattle.jobs.specs.Jobs.{call_of}
+use Rattle.cyw43_c.proofs.settings.cyw43_get.Goals as goal
+
+pub returns : goal.returns
+unfolding call_of
+returns c = c.plain_entered.ensures
