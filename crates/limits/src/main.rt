@@ -1,5 +1,6 @@
 // The call up, on logs and work buffers of many lengths: 12 and 13 change nothing.
 #![tactic(auto)]
+
 ghost use Rattle.std.specs.Prelude.{◌≡◌, ◌≤◌, length};
 
 use cyw43::fresh::{fresh_list, fresh_state};
