@@ -8,8 +8,8 @@ pub returns-then-p-eq0 : goal.returns-then-p-eq0
 returns-then-p-eq0 c =
     c.zero8.ensures
     ∙ sym (elim c.then-p-eq0.branch [
-      then-p-eq0-via-then-p-eq0 w ↦ failure-none c.args.p.now c.requires w.if-p-eq0.true
-    | then-p-eq0-via-else-p-eq0+then-p-eq7 w ↦ failure-timeout c.args.p.now c.requires w.if-p-eq7.true
+      | then-p-eq0-via-then-p-eq0 w ↦ failure-none c.args.p.now c.requires w.if-p-eq0.true
+      | then-p-eq0-via-else-p-eq0+then-p-eq7 w ↦ failure-timeout c.args.p.now c.requires w.if-p-eq7.true
     ])
 
 pub returns-then-p-eq6 : goal.returns-then-p-eq6
