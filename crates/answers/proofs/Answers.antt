@@ -14,12 +14,13 @@ use Rattle.slices.specs.Pick.{pick}
 use Rattle.slices.specs.Le.{words_for, bytes_of}
 use Rattle.slices.proofs.Over.{drop-take}
 use Rattle.wlan.specs.declared.BusOp.{BusOp}
-use Rattle.wlan.specs.declared.BusAnswer.{BusAnswer}
 use Rattle.definition.specs.Bus as def
-use Rattle.answers.specs.declared.Taken.{Taken}
 use Rattle.answers.specs.declared.Recorded.{Recorded}
 use Rattle.bus.specs.Op.{op_of, bare}
-use Rattle.answers.specs.Taken.{told, taken_from, taken_of, seen, taken_for}
+use Rattle.answers.specs.Taken.{Taken, told, taken_from, taken_of, seen, taken_for}
+use Rattle.std.specs.Prelude.{Ok, Err}
+use Rattle.wlan.specs.Results.{fault_at}
+use Rattle.answers.specs.declared.NoAnswer.{NoAnswer}
 
 -- ---- an answer's size
 
@@ -102,7 +103,7 @@ pub told-seen : (q : def.Op) (a : def.Answer) → told (def.taken_by q a) ≡ ta
 unfolding def.taken_by
 told-seen q a = by_kind q a (eqb a.kind 7)
 
-pub taken_none : (q : def.Op) (ws : List ℕ) → length ws < size_in ws → taken_of q ws ≡ Taken.Unrecorded
+pub taken_none : (q : def.Op) (ws : List ℕ) → length ws < size_in ws → taken_of q ws ≡ Err NoAnswer.Unrecorded
 unfolding taken_from
 taken_none q ws h = rw (answers-none ws h)
 
@@ -140,19 +141,26 @@ taken-bare (def.Op.wait ns) ws = refl
 
 -- ---- what was told says what the next answer is
 
-never-told : (t : def.Taken) → told t ≡ Taken.Unrecorded → ⊥
+never-told : (t : def.Taken) → told t ≡ Err NoAnswer.Unrecorded → ⊥
 never-told def.wrong h = let z : ◌≡◌ {A = ℕ} 0 1 = cc in omega arith
 never-told (def.got (def.fault p)) h = let z : ◌≡◌ {A = ℕ} 0 1 = cc in omega arith
 never-told (def.got (def.val v b)) h = let z : ◌≡◌ {A = ℕ} 0 1 = cc in omega arith
 
-told-wrong : (t : def.Taken) → told t ≡ Taken.Wrong → t ≡ def.wrong
+told-wrong : (t : def.Taken) → told t ≡ Err NoAnswer.Wrong → t ≡ def.wrong
 told-wrong def.wrong h = refl
 told-wrong (def.got (def.fault p)) h = cc
 told-wrong (def.got (def.val v b)) h = cc
 
-told-fault : (t : def.Taken) (p : ℕ) → told t ≡ Taken.Got (BusAnswer.Fault p) → t ≡ def.got (def.fault p)
+-- the place of a fault that was told
+place_in : Taken → ℕ
+place_in (Ok (Ok v)) = 0
+place_in (Ok (Err f)) = f.place
+place_in (Err e) = 0
+
+told-fault : (t : def.Taken) (p : ℕ) → told t ≡ Ok (Err (fault_at p)) → t ≡ def.got (def.fault p)
+unfolding place_in
 told-fault def.wrong p h = cc
-told-fault (def.got (def.fault x)) p h = cc
+told-fault (def.got (def.fault x)) p h = ap (λ (n : ℕ). def.got (def.fault n)) (ap place_in h)
 told-fault (def.got (def.val v b)) p h = cc
 
 -- the next answer is whole, and q takes it as t
@@ -168,15 +176,15 @@ next q ws t w h = record { whole = w; are = answers_next ws w; taken = h }
 decided : (q : def.Op) (ws : List ℕ) (t : def.Taken) → taken_of q ws ≡ told t → (size_in ws ≤ length ws) × (told (def.taken_by q (next_of ws)) ≡ told t)
 decided q ws t h = ⊎_elim (λ w. (w, sym (taken_next q ws w) ∙ h)) (λ s. absurd (never-told t (sym h ∙ taken_none q ws s))) (whole-or-not ws)
 
-pub taken-unrecorded : (q : def.Op) (ws : List ℕ) → taken_of q ws ≡ Taken.Unrecorded → def.answers ws ≡ []
+pub taken-unrecorded : (q : def.Op) (ws : List ℕ) → taken_of q ws ≡ Err NoAnswer.Unrecorded → def.answers ws ≡ []
 taken-unrecorded q ws h = ⊎_elim (λ w. absurd (never-told (def.taken_by q (next_of ws)) (sym (taken_next q ws w) ∙ h))) (λ s. answers-none ws s) (whole-or-not ws)
 
-pub taken-wrong : (q : def.Op) (ws : List ℕ) → taken_of q ws ≡ Taken.Wrong → Next q ws def.wrong
+pub taken-wrong : (q : def.Op) (ws : List ℕ) → taken_of q ws ≡ Err NoAnswer.Wrong → Next q ws def.wrong
 taken-wrong q ws h =
     let d = decided q ws def.wrong h in
     next q ws def.wrong d.0 (told-wrong (def.taken_by q (next_of ws)) d.1)
 
-pub taken-fault : (q : def.Op) (ws : List ℕ) (p : ℕ) → taken_of q ws ≡ Taken.Got (BusAnswer.Fault p) → Next q ws (def.got (def.fault p))
+pub taken-fault : (q : def.Op) (ws : List ℕ) (p : ℕ) → taken_of q ws ≡ Ok (Err (fault_at p)) → Next q ws (def.got (def.fault p))
 taken-fault q ws p h =
     let d = decided q ws (def.got (def.fault p)) h in
     next q ws (def.got (def.fault p)) d.0 (told-fault (def.taken_by q (next_of ws)) p d.1)
@@ -189,7 +197,7 @@ record Valued (q : def.Op) (a : def.Answer) (v : ℕ) : Type 0 where
   value : a.value ≡ v
 
 by_tests : (s t u w : Bool) (x v : ℕ) (b : def.Bytes)
-    → told (pick s (pick t def.wrong (def.got (def.fault x))) (pick u (pick w (def.got (def.val x b)) def.wrong) def.wrong)) ≡ Taken.Got (BusAnswer.Value v)
+    → told (pick s (pick t def.wrong (def.got (def.fault x))) (pick u (pick w (def.got (def.val x b)) def.wrong) def.wrong)) ≡ Ok (Ok v)
     → (s ≡ false) × (u ≡ true) × (w ≡ true) × (x ≡ v)
 by_tests true true u w x v b h = absurd (let z : ◌≡◌ {A = ℕ} 0 1 = cc in omega arith)
 by_tests true false u w x v b h = absurd (let z : ◌≡◌ {A = ℕ} 0 1 = cc in omega arith)
@@ -197,7 +205,7 @@ by_tests false t false w x v b h = absurd (let z : ◌≡◌ {A = ℕ} 0 1 = cc 
 by_tests false t true false x v b h = absurd (let z : ◌≡◌ {A = ℕ} 0 1 = cc in omega arith)
 by_tests false t true true x v b h = (refl, refl, refl, cc)
 
-valued : (q : def.Op) (a : def.Answer) (v : ℕ) → told (def.taken_by q a) ≡ Taken.Got (BusAnswer.Value v) → Valued q a v
+valued : (q : def.Op) (a : def.Answer) (v : ℕ) → told (def.taken_by q a) ≡ Ok (Ok v) → Valued q a v
 unfolding def.taken_by
 valued q a v h =
     let e = by_tests (eqb a.kind 7) (eqb (def.wants q) 4 || eqb (def.wants q) 5) (eqb a.kind (def.wants q)) (def.asked q a.value) a.value v a.bytes h in
@@ -208,12 +216,12 @@ valued q a v h =
       value = e.3;
     }
 
-told-value : (q : def.Op) (ws : List ℕ) (v : ℕ) → taken_of q ws ≡ Taken.Got (BusAnswer.Value v) → (size_in ws ≤ length ws) × Valued q (next_of ws) v
+told-value : (q : def.Op) (ws : List ℕ) (v : ℕ) → taken_of q ws ≡ Ok (Ok v) → (size_in ws ≤ length ws) × Valued q (next_of ws) v
 told-value q ws v h =
     let d = decided q ws (def.got (def.val v [])) h in
     (d.0, valued q (next_of ws) v d.1)
 
-pub taken-value : (q : def.Op) (ws : List ℕ) (v : ℕ) → taken_of q ws ≡ Taken.Got (BusAnswer.Value v) → Next q ws (def.got (def.val v (next_of ws).bytes))
+pub taken-value : (q : def.Op) (ws : List ℕ) (v : ℕ) → taken_of q ws ≡ Ok (Ok v) → Next q ws (def.got (def.val v (next_of ws).bytes))
 taken-value q ws v h =
     let d = told-value q ws v h in
     next q ws (def.got (def.val v (next_of ws).bytes)) d.0 d.1.is
@@ -258,7 +266,7 @@ pub record Packet (n : ℕ) (ws : List ℕ) (v : ℕ) : Type 0 where
   pub size : size_in ws ≡ 2 + words_for n
   pub bytes : (next_of ws).bytes ≡ bytes_of (take (1 + words_for n) (drop 1 ws))
 
-pub taken-packet : (n : ℕ) (ws : List ℕ) (v : ℕ) → taken_of (def.Op.read_packet n) ws ≡ Taken.Got (BusAnswer.Value v) → Packet n ws v
+pub taken-packet : (n : ℕ) (ws : List ℕ) (v : ℕ) → taken_of (def.Op.read_packet n) ws ≡ Ok (Ok v) → Packet n ws v
 taken-packet n ws v h =
     let u = (told-value (def.Op.read_packet n) ws v h).1 in
     let r = by-head (take (size_in ws) ws) (eqb (def.kind_of (get_or (take (size_in ws) ws) 0 0)) 3) refl u.kind in

@@ -7,16 +7,17 @@ ghost use Rattle.definition.specs.Bus as def;
 ghost use Rattle.bus.specs.Op.{op_of};
 ghost use Rattle.answers.specs.Taken.{seen, taken_for, taken_of};
 
-use wlan::{BusAnswer, BusOp};
+use wlan::{BusAnswer, BusFault, BusOp};
 
 #[derive(Clone, Copy)]
-pub enum Taken {
+pub enum NoAnswer {
     // The next answer is not wholly recorded.
     Unrecorded,
     // It is not one to the operation.
     Wrong,
-    Got(BusAnswer),
 }
+
+pub type Taken = Result<BusAnswer, NoAnswer>;
 
 // A recorded answer: a fault's place, or a kind and a value. No operation takes kind 0.
 #[derive(Clone, Copy)]
@@ -25,17 +26,11 @@ pub enum Recorded {
     Value(u32, u64),
 }
 
-pub fn long(x: u32) -> u64
-    ensures { (result ≡ x) × (result < 4294967296) }
-{
-    x as u64
-}
-
 // How many words the answer that begins with head takes.
 pub fn answer_words(head: u32) -> usize
     ensures { result ≡ def.size_of head }
 {
-    match head / 268435456 {
+    match head >> 28 {
         2 => 2,
         3 => {
             let n = (head % 65536) as usize;
@@ -51,7 +46,7 @@ pub fn answer_words(head: u32) -> usize
 fn clock_in(ws: &[u32]) -> u64
     ensures { result ≡ get_or ws.now 1 0 + 4294967296 * get_or ws.now 2 0 }
 {
-    long(words::word_at(ws, 1)) + 4294967296 * long(words::word_at(ws, 2))
+    u64::from(words::word_at(ws, 1)) + (u64::from(words::word_at(ws, 2)) << 32)
 }
 
 // An answer of this kind, where its unused bits are zero.
@@ -81,11 +76,11 @@ fn read_answer(ws: &[u32]) -> Recorded
     ensures { result ≡ seen (def.answer_of ws.now) }
 {
     let head = words::word_at(ws, 0);
-    let low = head % 268435456;
-    match head / 268435456 {
-        1 => value_read(low < 65536, 1, long(low)),
-        2 => value_read(low == 0, 2, long(words::word_at(ws, 1))),
-        3 => value_read(low < 65536, 3, long(low)),
+    let low = head % 0x1000_0000;
+    match head >> 28 {
+        1 => value_read(low < 65536, 1, u64::from(low)),
+        2 => value_read(low == 0, 2, u64::from(words::word_at(ws, 1))),
+        3 => value_read(low < 65536, 3, u64::from(low)),
         4 => value_read(low == 0, 4, clock_in(ws)),
         5 => value_read(low == 0, 5, clock_in(ws)),
         6 => value_read(low == 0, 6, 0),
@@ -118,7 +113,7 @@ fn asked(op: BusOp, v: u64) -> bool
     match op {
         BusOp::ReadInterrupt => true,
         BusOp::ReadStatus => true,
-        BusOp::ReadPacket(n) => v == n as u64,
+        BusOp::ReadPacket(n) => v == u64::from(n),
         BusOp::ReadClock => true,
         BusOp::ReadTick => true,
         BusOp::WritePacket(_) => true,
@@ -134,24 +129,24 @@ fn fault_for(op: BusOp, place: u8) -> Taken
 {
     let want = wanted(op);
     if want == 4 {
-        return Taken::Wrong;
+        return Err(NoAnswer::Wrong);
     }
     if want == 5 {
-        return Taken::Wrong;
+        return Err(NoAnswer::Wrong);
     }
-    Taken::Got(BusAnswer::Fault(place))
+    Ok(Err(BusFault { place }))
 }
 
 fn value_for(op: BusOp, kind: u32, value: u64) -> Taken
     ensures { result ≡ taken_for (op_of op []) (Recorded.Value kind value) }
 {
     if kind != wanted(op) {
-        return Taken::Wrong;
+        return Err(NoAnswer::Wrong);
     }
     if asked(op, value) {
-        Taken::Got(BusAnswer::Value(value))
+        Ok(Ok(value))
     } else {
-        Taken::Wrong
+        Err(NoAnswer::Wrong)
     }
 }
 
@@ -170,7 +165,7 @@ pub fn take_answer(rec: &[u32], pos: usize, op: BusOp) -> Taken
 {
     let n = answer_words(words::word_at(rec, pos));
     if slices::fitting(rec.len(), pos, n) < n {
-        return Taken::Unrecorded;
+        return Err(NoAnswer::Unrecorded);
     }
     taken_by(op, read_answer(&rec[pos..pos + n]))
 }

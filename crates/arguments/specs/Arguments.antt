@@ -1,5 +1,5 @@
 -- What a call's arguments are, read from bytes.
-use Rattle.std.specs.Prelude.{ℕ, ◌-◌, ◌≤◌, ◌≡◌, length, take, drop}
+use Rattle.std.specs.Prelude.{ℕ, ◌≡◌, Option, Some, None}
 use Rattle.slices.specs.Le.{le32_at}
 use Rattle.definition.specs.Bus.{Bytes}
 use Rattle.definition.specs.Calls.{Call}
@@ -8,33 +8,21 @@ use Rattle.jobs.specs.Jobs.{call_of}
 use Rattle.lines.specs.Input.{output_length}
 use Rattle.arguments.specs.declared.CallArgs.{CallArgs}
 
--- from i up to j
-abbrev pub part : Bytes → ℕ → ℕ → Bytes
-part a i j = take (j - i) (drop i a)
-
 -- a: the bytes
-abbrev pub arguments_by : Bytes → CallArgs → Arguments
-arguments_by a (CallArgs.Exchanges c i j k) = call_with (call_of c (part a i j) (part a k (length a)))
-arguments_by a CallArgs.Poll = call_with Call.wifi_poll
-arguments_by a (CallArgs.Send interface) = call_with (Call.send_data interface (part a 4 (length a)))
-arguments_by a CallArgs.Take = call_with (Call.get_rx_buf (le32_at a 0))
-arguments_by a CallArgs.Bad = bad_arguments
+abbrev pub arguments_by : Bytes → Option CallArgs → Arguments
+arguments_by a (Some (CallArgs.Exchanges c x y)) = call_with (call_of c x.now y.now)
+arguments_by a (Some CallArgs.Poll) = call_with Call.wifi_poll
+arguments_by a (Some (CallArgs.Send interface frame)) = call_with (Call.send_data interface frame.now)
+arguments_by a (Some CallArgs.Take) = call_with (Call.get_rx_buf (le32_at a 0))
+arguments_by a None = bad_arguments
 
-abbrev pub output_by : Bytes → CallArgs → ℕ
-output_by a (CallArgs.Exchanges c i j k) = 0
-output_by a CallArgs.Poll = 0
-output_by a (CallArgs.Send interface) = 0
-output_by a CallArgs.Take = le32_at a 0
-output_by a CallArgs.Bad = 0
-
--- the parts are there
-abbrev pub Room : Bytes → CallArgs → Type 0
-Room a (CallArgs.Exchanges c i j k) = (i ≤ j) × (j ≤ length a) × (k ≤ length a)
-Room a CallArgs.Poll = Unit {0}
-Room a (CallArgs.Send interface) = 4 ≤ length a
-Room a CallArgs.Take = Unit {0}
-Room a CallArgs.Bad = Unit {0}
+abbrev pub output_by : Bytes → Option CallArgs → ℕ
+output_by a (Some (CallArgs.Exchanges c x y)) = 0
+output_by a (Some CallArgs.Poll) = 0
+output_by a (Some (CallArgs.Send interface frame)) = 0
+output_by a (Some CallArgs.Take) = le32_at a 0
+output_by a None = 0
 
 -- r is the call c with these arguments
-abbrev pub Reads : ℕ → Bytes → CallArgs → Type 0
-Reads c a r = (arguments_of c a ≡ arguments_by a r) × (output_length c a ≡ output_by a r) × Room a r
+abbrev pub Reads : ℕ → Bytes → Option CallArgs → Type 0
+Reads c a r = (arguments_of c a ≡ arguments_by a r) × (output_length c a ≡ output_by a r)

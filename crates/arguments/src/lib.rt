@@ -1,161 +1,129 @@
 // A call from its number and its arguments as bytes. Numbers are le words.
 #![tactic(auto)]
 
-ghost use Rattle.std.specs.Prelude.{◌≡◌};
-ghost use Rattle.definition.specs.Player.{name_length, join_of, variable_of};
-ghost use Rattle.lines.specs.Input.{complete, Plain};
+ghost use Rattle.std.specs.Prelude.{◌≡◌, ◌==◌};
+ghost use Rattle.std.specs.List.{position};
+ghost use Rattle.lines.specs.Input.{Plain};
 ghost use Rattle.arguments.specs.Arguments as to;
 
 use jobs::ExchangeCall;
 use words::get_le32;
 
-// Byte arguments stay where they are.
+// Byte arguments are lent from where they stand.
 #[derive(Clone, Copy)]
-pub enum CallArgs {
-    // A call that is exchanges; where its first byte argument begins and ends, and where the second begins, which ends with the bytes.
-    Exchanges(ExchangeCall, usize, usize, usize),
+pub enum CallArgs<'a> {
+    // A call that is exchanges, and its two byte arguments; those of a call that has none are not read.
+    Exchanges(ExchangeCall, &'a [u8], &'a [u8]),
     Poll,
-    // Interface.
-    Send(u32),
+    // Interface, frame.
+    Send(u32, &'a [u8]),
     Take,
-    // Arguments missing or left over.
-    Bad,
-}
-
-// Auth, SSID length, SSID, passphrase.
-fn join_fits(args: &[u8]) -> bool
-    ensures { result ≡ complete (join_of args.now) }
-{
-    8 <= args.len() && 8 + get_le32(args, 4) as usize <= args.len()
 }
 
 // How many bytes stand before the first zero.
-fn name_length(s: &[u8]) -> usize
-    ensures { result ≡ name_length s.now }
+fn first_zero(s: &[u8]) -> Option<usize>
+    ensures { result ≡ position (λ b. b == 0) s.now }
 {
-    let mut i = 0;
-    while i < s.len() && s[i] != 0 {
-        i += 1;
-    }
-    i
+    s.iter().position(|b| *b == 0)
 }
 
-// Interface, name, zero, data.
-fn variable_fits(args: &[u8]) -> bool
-    ensures { result ≡ complete (variable_of args.now) }
-{
-    4 <= args.len() && name_length(&args[4..]) < args.len() - 4
-}
-
-fn init(args: &[u8]) -> CallArgs
+fn init(args: &[u8]) -> Option<CallArgs<'_>>
     ensures { to.Reads 1 args.now result }
 {
-    if args.len() == 4 {
-        return CallArgs::Exchanges(ExchangeCall::Init(get_le32(args, 0)), 0, 0, 0);
+    if args.len() != 4 {
+        return None;
     }
-    CallArgs::Bad
+    let call = ExchangeCall::Init(get_le32(args, 0));
+    Some(CallArgs::Exchanges(call, &[], &[]))
 }
 
-fn join(args: &[u8]) -> CallArgs
+// Auth, SSID length, SSID, passphrase.
+fn join(args: &[u8]) -> Option<CallArgs<'_>>
     ensures { to.Reads 3 args.now result }
 {
-    if join_fits(args) {
-        let n = get_le32(args, 4) as usize;
-        return CallArgs::Exchanges(ExchangeCall::Connect(get_le32(args, 0)), 8, 8 + n, 8 + n);
-    }
-    CallArgs::Bad
+    let (_, rest) = args.split_at_checked(8)?;
+    let (ssid, passphrase) = rest.split_at_checked(get_le32(args, 4) as usize)?;
+    let call = ExchangeCall::Connect(get_le32(args, 0));
+    Some(CallArgs::Exchanges(call, ssid, passphrase))
 }
 
-fn send(args: &[u8]) -> CallArgs
+fn send(args: &[u8]) -> Option<CallArgs<'_>>
     ensures { to.Reads 7 args.now result }
 {
-    if 4 <= args.len() {
-        return CallArgs::Send(get_le32(args, 0));
-    }
-    CallArgs::Bad
+    let (_, frame) = args.split_at_checked(4)?;
+    Some(CallArgs::Send(get_le32(args, 0), frame))
 }
 
 // The output is as long as the argument says.
-fn take(args: &[u8]) -> CallArgs
+fn take(args: &[u8]) -> Option<CallArgs<'_>>
     ensures { to.Reads 8 args.now result }
 {
-    if args.len() == 4 {
-        return CallArgs::Take;
+    if args.len() != 4 {
+        return None;
     }
-    CallArgs::Bad
+    Some(CallArgs::Take)
 }
 
-fn gpio(args: &[u8]) -> CallArgs
+fn gpio(args: &[u8]) -> Option<CallArgs<'_>>
     ensures { to.Reads 9 args.now result }
 {
-    if args.len() == 8 {
-        return CallArgs::Exchanges(
-            ExchangeCall::GpioSet(get_le32(args, 0), get_le32(args, 4)),
-            0,
-            0,
-            0,
-        );
+    if args.len() != 8 {
+        return None;
     }
-    CallArgs::Bad
+    let call = ExchangeCall::GpioSet(get_le32(args, 0), get_le32(args, 4));
+    Some(CallArgs::Exchanges(call, &[], &[]))
 }
 
-fn get(args: &[u8]) -> CallArgs
+fn get(args: &[u8]) -> Option<CallArgs<'_>>
     ensures { to.Reads 11 args.now result }
 {
-    if args.len() == 8 {
-        return CallArgs::Exchanges(
-            ExchangeCall::GetIoctl(get_le32(args, 0), get_le32(args, 4)),
-            0,
-            0,
-            0,
-        );
+    if args.len() != 8 {
+        return None;
     }
-    CallArgs::Bad
+    let call = ExchangeCall::GetIoctl(get_le32(args, 0), get_le32(args, 4));
+    Some(CallArgs::Exchanges(call, &[], &[]))
 }
 
-fn set(args: &[u8]) -> CallArgs
+fn set(args: &[u8]) -> Option<CallArgs<'_>>
     ensures { to.Reads 12 args.now result }
 {
-    if args.len() == 12 {
-        return CallArgs::Exchanges(
-            ExchangeCall::SetIoctl(get_le32(args, 0), get_le32(args, 4), get_le32(args, 8)),
-            0,
-            0,
-            0,
-        );
+    if args.len() != 12 {
+        return None;
     }
-    CallArgs::Bad
+    let call = ExchangeCall::SetIoctl(get_le32(args, 0), get_le32(args, 4), get_le32(args, 8));
+    Some(CallArgs::Exchanges(call, &[], &[]))
 }
 
-fn variable(args: &[u8]) -> CallArgs
+// Interface, name, zero, data.
+fn variable(args: &[u8]) -> Option<CallArgs<'_>>
     ensures { to.Reads 13 args.now result }
 {
-    if variable_fits(args) {
-        let n = name_length(&args[4..]);
-        return CallArgs::Exchanges(ExchangeCall::WriteIovar(get_le32(args, 0)), 4, 4 + n, 5 + n);
-    }
-    CallArgs::Bad
+    let (_, rest) = args.split_at_checked(4)?;
+    let n = first_zero(rest)?;
+    let call = ExchangeCall::WriteIovar(get_le32(args, 0));
+    Some(CallArgs::Exchanges(call, &rest[..n], &rest[n + 1..]))
 }
 
 // The calls that have no arguments.
-fn bare(call: u32, args: &[u8]) -> CallArgs
+fn bare(call: u32, args: &[u8]) -> Option<CallArgs<'_>>
     requires { Plain call }
     ensures { to.Reads call args.now result }
 {
-    if args.len() != 0 {
-        return CallArgs::Bad;
+    if !args.is_empty() {
+        return None;
     }
     match call {
-        2 => CallArgs::Exchanges(ExchangeCall::Scan, 0, 0, 0),
-        4 => CallArgs::Exchanges(ExchangeCall::Disconnect, 0, 0, 0),
-        5 => CallArgs::Exchanges(ExchangeCall::AbortConnect, 0, 0, 0),
-        6 => CallArgs::Poll,
-        10 => CallArgs::Exchanges(ExchangeCall::GetMacAddr, 0, 0, 0),
-        _ => CallArgs::Exchanges(ExchangeCall::Up, 0, 0, 0),
+        2 => Some(CallArgs::Exchanges(ExchangeCall::Scan, args, args)),
+        4 => Some(CallArgs::Exchanges(ExchangeCall::Disconnect, args, args)),
+        5 => Some(CallArgs::Exchanges(ExchangeCall::AbortConnect, args, args)),
+        6 => Some(CallArgs::Poll),
+        10 => Some(CallArgs::Exchanges(ExchangeCall::GetMacAddr, args, args)),
+        _ => Some(CallArgs::Exchanges(ExchangeCall::Up, args, args)),
     }
 }
 
-pub fn read_args(call: u32, args: &[u8]) -> CallArgs
+// The call of that number, unless arguments are missing or left over.
+pub fn read_args(call: u32, args: &[u8]) -> Option<CallArgs<'_>>
     ensures { to.Reads call args.now result }
 {
     match call {

@@ -12,9 +12,10 @@ use event_state::{Numbers, event_from, handle_numbers, numbers_in};
 use hearing::count_in;
 use hearing::result::{add_result, knows_result};
 use undo::keep_records;
+use wlan::{SessionBytes, UndoBytes, WorkBuffer};
 
 // The list hears the event whose 140 bytes are e. The records are kept before one is laid.
-fn hear_result(s: &mut [u8], undo: &mut [u8], e: &[u8])
+fn hear_result(s: &mut SessionBytes, undo: &mut UndoBytes, e: &[u8])
     requires s_value { is_session s.old ≡ true }
     requires kept_2 { Kept undo.old }
     requires e_len { length e.now ≡ 140 }
@@ -32,7 +33,7 @@ fn hear_result(s: &mut [u8], undo: &mut [u8], e: &[u8])
 }
 
 // The same of an event that its declared length or the packet's end cuts off.
-fn hear_cut(s: &mut [u8], undo: &mut [u8], buf: &[u8], offset: u16, len: u16)
+fn hear_cut(s: &mut SessionBytes, undo: &mut UndoBytes, buf: &[u8], offset: u16, len: u16)
     requires s_value { is_session s.old ≡ true }
     requires kept_2 { Kept undo.old }
     ensures list { Holds s.new (with_list s.old (heard (session_in s.old).list (event_of (drop offset buf.now) len).scan_result)) }
@@ -43,10 +44,9 @@ fn hear_cut(s: &mut [u8], undo: &mut [u8], buf: &[u8], offset: u16, len: u16)
 }
 
 // An event that brings a network.
-fn hear_brought(s: &mut [u8], undo: &mut [u8], buf: &[u8], offset: u16, len: u16)
+fn hear_brought(s: &mut SessionBytes, undo: &mut UndoBytes, buf: &WorkBuffer, offset: u16, len: u16)
     requires s_value { is_session s.old ≡ true }
     requires kept_2 { Kept undo.old }
-    requires buf_len { length buf.now ≡ 2048 }
     ensures list { Holds s.new (with_list s.old (heard (session_in s.old).list (event_of (drop offset buf.now) len).scan_result)) }
     ensures kept { to.KeptFor undo.old undo.new s.old s.new }
 {
@@ -74,10 +74,15 @@ fn brings_network(n: Numbers) -> bool
 }
 
 // An event whose first 16 bytes are there.
-pub fn handle_there(s: &mut [u8], undo: &mut [u8], buf: &[u8], offset: u16, len: u16)
+pub fn handle_there(
+    s: &mut SessionBytes,
+    undo: &mut UndoBytes,
+    buf: &WorkBuffer,
+    offset: u16,
+    len: u16,
+)
     requires s_value { is_session s.old ≡ true }
     requires kept_2 { Kept undo.old }
-    requires buf_len { length buf.now ≡ 2048 }
     requires le_len { (48 ≤ len) × (offset + 48 ≤ 2048) }
     ensures held { Holds s.new (to.after_session s.old (event_of (drop offset buf.now) len)) }
     ensures kept { to.KeptFor undo.old undo.new s.old s.new }
@@ -93,7 +98,7 @@ pub fn handle_there(s: &mut [u8], undo: &mut [u8], buf: &[u8], offset: u16, len:
 }
 
 // An event of which the packet does not have the first 16 bytes.
-pub fn handle_far(s: &mut [u8], undo: &mut [u8], buf: &[u8], offset: u16, len: u16)
+pub fn handle_far(s: &mut SessionBytes, undo: &mut UndoBytes, buf: &[u8], offset: u16, len: u16)
     requires s_value { is_session s.old ≡ true }
     requires kept_2 { Kept undo.old }
     ensures held { Holds s.new (to.after_session s.old (event_of (drop offset buf.now) len)) }

@@ -11,12 +11,18 @@ ghost use Rattle.undo.specs.Undo.{Kept};
 ghost use Rattle.arriving.specs.Arriving as to;
 
 use crate::event::{handle_far, handle_there};
+use wlan::{SessionBytes, UndoBytes, WorkBuffer};
 
 // An event of a declared length, in a packet in buf: what it does to the state and to the scan list. Below 48 bytes it is ignored.
-pub fn handle_async_event(s: &mut [u8], undo: &mut [u8], buf: &[u8], offset: u16, len: u16)
+pub fn handle_async_event(
+    s: &mut SessionBytes,
+    undo: &mut UndoBytes,
+    buf: &WorkBuffer,
+    offset: u16,
+    len: u16,
+)
     requires s_value { is_session s.old ≡ true }
     requires kept_2 { Kept undo.old }
-    requires buf_len { length buf.now ≡ 2048 }
     ensures held { Holds s.new (to.handled_session s.old (event_of (drop offset buf.now) len) len) }
     ensures kept { to.KeptFor undo.old undo.new s.old s.new }
 {

@@ -1,14 +1,12 @@
 -- One operation of a call: what follows it, what its answer leaves, and what is kept for roll-back.
-use Rattle.std.specs.Prelude.{ℕ, ◌+◌, ◌<◌, ◌≤◌, ◌≡◌, Bool, true, false, List, [], length, drop, get_or}
+use Rattle.std.specs.Prelude.{ℕ, ◌+◌, ◌<◌, ◌≤◌, ◌≡◌, Bool, true, false, List, [], length, drop, get_or, Ok, Err}
 use Rattle.slices.specs.Pick.{pick}
-use Rattle.wlan.specs.declared.BusAnswer.{BusAnswer}
 use Rattle.wlan.specs.declared.BusOp.{BusOp}
 use Rattle.wlan.specs.declared.Refusal.{Refusal}
 use Rattle.definition.specs.Bus.{Bytes, Place, Ans, val, size_of}
 use Rattle.definition.specs.Prog.{World, Prog}
 use Rattle.definition.specs.Poll.{Result}
 use Rattle.definition.specs.Run.{End, rolled_back}
-use Rattle.answers.specs.declared.Taken.{Taken}
 use Rattle.answers.specs.Taken.{taken_of}
 use Rattle.bus.specs.Op.{op_of}
 use Rattle.device.specs.Meaning as device
@@ -18,18 +16,21 @@ use Rattle.going.specs.Onward.{go, finish}
 use Rattle.undo.specs.Undo.{Kept, records_kept, back_session, back_buf}
 use Rattle.asking.specs.declared.Asked.{Asked}
 use Rattle.asking.specs.declared.Back.{Back}
+use Rattle.wlan.specs.Results.{BusAnswer, fault_at}
+use Rattle.answers.specs.Taken.{Taken}
+use Rattle.answers.specs.declared.NoAnswer.{NoAnswer}
 
 abbrev pub asked_of : Back → Bool → ℕ → ℕ → ℕ → Asked
 asked_of b f v p l = record { back = b; fault = f; value = v; pos = p; len = l }
 
 unfoldable pub answer_of : Bool → ℕ → BusAnswer
-answer_of true p = BusAnswer.Fault p
-answer_of false v = BusAnswer.Value v
+answer_of true p = Err (fault_at p)
+answer_of false v = Ok v
 
 -- a fault's place is a byte
 unfoldable pub SmallPlace : BusAnswer → Type 0
-SmallPlace (BusAnswer.Fault p) = p < 256
-SmallPlace (BusAnswer.Value v) = Unit {0}
+SmallPlace (Err f) = f.place < 256
+SmallPlace (Ok v) = Unit {0}
 
 -- the answer that x stands for; ws: the recording's words that begin with it
 unfoldable pub answer_to : BusOp → BusAnswer → List ℕ → Ans
@@ -89,7 +90,7 @@ pub record Begins (rec : List ℕ) (pos n head : ℕ) : Type 0 where
 
 -- the answer x was taken; p: the words that are taken with it
 pub record Got (x : BusAnswer) (op : BusOp) (rec : List ℕ) (pos p : ℕ) : Type 0 where
-  pub taken : Taken.Got x ≡ taken_of (op_of op []) (drop pos rec)
+  pub taken : Ok x ≡ taken_of (op_of op []) (drop pos rec)
   pub range : device.InRange op (answer_in x (drop pos rec))
   pub past : p ≡ pos + size_of (get_or rec pos 0)
   pub place : SmallPlace x
@@ -102,8 +103,8 @@ pub record HeardAs (x : BusAnswer) (op : BusOp) (rec : List ℕ) (pos len : ℕ)
 
 abbrev pub HeardBy : Type 0 → Taken → Back → Type 0
 HeardBy got t Back.No = got
-HeardBy got t Back.Unrecorded = Taken.Unrecorded ≡ t
-HeardBy got t Back.WrongAnswer = Taken.Wrong ≡ t
+HeardBy got t Back.Unrecorded = Err NoAnswer.Unrecorded ≡ t
+HeardBy got t Back.WrongAnswer = Err NoAnswer.Wrong ≡ t
 HeardBy got t Back.LogFull = ⊥
 
 pub record Heard (op : BusOp) (rec : List ℕ) (pos len : ℕ) (r : Asked) : Type 0 where

@@ -1,8 +1,7 @@
 // A call by value: state and scan list go into a session's bytes, the call runs on them, and they are read from the bytes again.
 #![tactic(auto)]
 
-ghost use Rattle.std.specs.Prelude.{◌≡◌, true, List, [], ℕ};
-ghost use Rattle.wlan.specs.declared.Outcome as outcome;
+ghost use Rattle.std.specs.Prelude.{◌≡◌, true, List, [], ℕ, Err};
 ghost use Rattle.wlan.specs.declared.Refusal as refusal;
 ghost use Rattle.definition.specs.Bus.{Bytes};
 ghost use Rattle.definition.specs.Prog.{world};
@@ -23,10 +22,12 @@ use runs::polling::run_poll;
 use session_bytes::session::Session;
 use session_read::{list_of, state_in};
 use session_write::put_session;
-use wlan::{Outcome, Refusal, ScanList, State};
+use wlan::{
+    Outcome, Refusal, SESSION_LEN, ScanList, SessionBytes, State, UNDO_LEN, WORK_BUFFER_LEN,
+};
 
 // What the run left in the bytes s.
-fn end_of(r: RunEnd, s: &[u8]) -> CallEnd
+fn end_of(r: RunEnd, s: &SessionBytes) -> CallEnd
     requires { is_session s.now ≡ true }
     ensures { (e : End) (log : List ℕ) (buf : Bytes) → Left e log s.now buf r → end_of result log buf [] ≡ e }
 {
@@ -40,10 +41,10 @@ fn end_of(r: RunEnd, s: &[u8]) -> CallEnd
 
 // 13: nothing is changed.
 fn other_length(st: State, list: ScanList) -> CallEnd
-    ensures { (result.outcome ≡ outcome.Outcome.Refused refusal.Refusal.BufferLength) × (result.st ≡ st) × (result.list ≡ list) × (result.len ≡ 0) }
+    ensures { (result.outcome ≡ Err refusal.Refusal.BufferLength) × (result.st ≡ st) × (result.list ≡ list) × (result.len ≡ 0) }
 {
     CallEnd {
-        outcome: Outcome::Refused(Refusal::BufferLength),
+        outcome: Err(Refusal::BufferLength),
         st: st,
         list: list,
         len: 0,
@@ -63,11 +64,11 @@ pub fn exchanges(
 ) -> CallEnd
     ensures { end_of result log.new buf.new [] ≡ called (call_of c a.now b.now) (world st buf.old list) rec.now log.old [] }
 {
-    if buf.len() != 2048 {
+    let Some(buf) = buf.as_mut_array::<WORK_BUFFER_LEN>() else {
         return other_length(st, list);
-    }
-    let mut s = [0u8; 1393];
-    let mut undo = [0u8; 3444];
+    };
+    let mut s = [0u8; SESSION_LEN];
+    let mut undo = [0u8; UNDO_LEN];
     put_session(Session { st: st, list: list }, &mut s);
     let r = run_exchanges(c, a, b, &mut s, &mut undo, rec, log, buf);
     end_of(r, &s)
@@ -91,11 +92,11 @@ pub fn plain(
 pub fn poll(st: State, list: ScanList, rec: &[u32], log: &mut [u32], buf: &mut [u8]) -> CallEnd
     ensures { end_of result log.new buf.new [] ≡ called (Call.wifi_poll) (world st buf.old list) rec.now log.old [] }
 {
-    if buf.len() != 2048 {
+    let Some(buf) = buf.as_mut_array::<WORK_BUFFER_LEN>() else {
         return other_length(st, list);
-    }
-    let mut s = [0u8; 1393];
-    let mut undo = [0u8; 3444];
+    };
+    let mut s = [0u8; SESSION_LEN];
+    let mut undo = [0u8; UNDO_LEN];
     put_session(Session { st: st, list: list }, &mut s);
     let r = run_poll(&mut s, &mut undo, rec, log, buf);
     end_of(r, &s)
@@ -112,11 +113,11 @@ pub fn send(
 ) -> CallEnd
     ensures { end_of result log.new buf.new [] ≡ called (Call.send_data interface frame.now) (world st buf.old list) rec.now log.old [] }
 {
-    if buf.len() != 2048 {
+    let Some(buf) = buf.as_mut_array::<WORK_BUFFER_LEN>() else {
         return other_length(st, list);
-    }
-    let mut s = [0u8; 1393];
-    let mut undo = [0u8; 3444];
+    };
+    let mut s = [0u8; SESSION_LEN];
+    let mut undo = [0u8; UNDO_LEN];
     put_session(Session { st: st, list: list }, &mut s);
     let r = run_send(interface, frame, &mut s, &mut undo, rec, log, buf);
     end_of(r, &s)

@@ -11,7 +11,6 @@ use Rattle.slices.specs.Over.{over}
 use Rattle.slices.proofs.Over.{over-nil}
 use Rattle.wlan.specs.declared.DriverError.{DriverError}
 use Rattle.wlan.specs.declared.Refusal.{Refusal}
-use Rattle.wlan.specs.declared.PendingRx.{PendingRx}
 use Rattle.definition.specs.Bus.{Bytes, log_of, Answer, answers}
 use Rattle.definition.specs.Prog.{World, Prog, ret, stop}
 use Rattle.definition.specs.Poll.{Result}
@@ -22,6 +21,8 @@ use Rattle.going.specs.Onward as onward
 use Rattle.going.proofs.Going.{run_ret, run-stop}
 use Rattle.definition.specs.History.{Given, end_of}
 use Rattle.chains.specs.Chain.{Lent, LentMut, Entry, Exit, Ran, wifi_init, wifi_scan, wifi_connect, wifi_disconnect, wifi_abort_connect, wifi_poll, send_data, get_rx_buf, gpio_set, get_mac_addr, get_ioctl, set_ioctl, write_iovar, up, after, Chain, none, more}
+use Rattle.std.specs.Prelude.{Option, Some, None}
+use Rattle.wlan.specs.declared.PendingBuf.{PendingBuf}
 
 -- ---- what a function can be given
 
@@ -121,10 +122,10 @@ module _ (e : World) where
   still_pick true h g = h
   still_pick false h g = g
 
-  taken-still : (n : ℕ) (x : PendingRx) → Still (taken n x e)
+  taken-still : (n : ℕ) (x : Option PendingBuf) → Still (taken n x e)
   unfolding taken
-  taken-still n PendingRx.None = stopped refl
-  taken-still n (PendingRx.Some f) = still_pick (ltb n f.len) (stopped refl) (still_pick (ltb 2048 (f.offset + f.len)) (stopped refl) (ended refl))
+  taken-still n None = stopped refl
+  taken-still n (Some f) = still_pick (ltb n f.len) (stopped refl) (still_pick (ltb 2048 (f.offset + f.len)) (stopped refl) (ended refl))
 
   quiet : {p : Prog Result} → Still p → Quiet e.buf (λ l room. run e l room p)
   quiet (ended {r} {w} h) = record { run = _; is = λ l room. run_ret e l room r w; silent = refl; kept = h }

@@ -1,7 +1,6 @@
 -- A failed join as numbers: a tag, 0 for none, and fields, 0 where there are none.
-use Rattle.std.specs.Prelude.{ℕ, eqb}
+use Rattle.std.specs.Prelude.{ℕ, eqb, Option, Some, None}
 use Rattle.slices.specs.Pick.{pick}
-use Rattle.wlan.specs.declared.ConnectFailure.{ConnectFailure}
 use Rattle.wlan.specs.declared.WifiConnectFailure.{WifiConnectFailure}
 use Rattle.connect_failure.specs.declared.FailureParts.{FailureParts}
 
@@ -17,9 +16,9 @@ failure_kind (WifiConnectFailure.Pruned s r) = failed 5 s r
 failure_kind (WifiConnectFailure.Deauthenticated r) = failed 6 0 r
 failure_kind WifiConnectFailure.Timeout = failed 7 0 0
 
-unfoldable pub failure_parts : ConnectFailure → FailureParts
-failure_parts ConnectFailure.None = failed 0 0 0
-failure_parts (ConnectFailure.Some f) = failure_kind f
+unfoldable pub failure_parts : Option WifiConnectFailure → FailureParts
+failure_parts None = failed 0 0 0
+failure_parts (Some f) = failure_kind f
 
 unfoldable pub kind_of : ℕ → ℕ → ℕ → WifiConnectFailure
 kind_of t s r =
@@ -30,5 +29,5 @@ kind_of t s r =
     (pick (eqb t 5) (WifiConnectFailure.Pruned s r)
     (pick (eqb t 6) (WifiConnectFailure.Deauthenticated r) WifiConnectFailure.Timeout)))))
 
-unfoldable pub failure_of : FailureParts → ConnectFailure
-failure_of p = pick (eqb p.tag 0) ConnectFailure.None (ConnectFailure.Some (kind_of p.tag p.status p.reason))
+unfoldable pub failure_of : FailureParts → Option WifiConnectFailure
+failure_of p = pick (eqb p.tag 0) None (Some (kind_of p.tag p.status p.reason))

@@ -4,7 +4,7 @@
 ghost use Rattle.std.specs.Prelude.{◌≡◌};
 ghost use Rattle.connect_failure.specs.Parts as to;
 
-use wlan::{ConnectFailure, WifiConnectFailure};
+use wlan::WifiConnectFailure;
 
 // The tag is 1 to 7, in the order of the variants.
 #[derive(Clone, Copy)]
@@ -38,12 +38,12 @@ fn failure_kind(f: WifiConnectFailure) -> FailureParts
     }
 }
 
-pub fn failure_parts(f: ConnectFailure) -> FailureParts
+pub fn failure_parts(f: Option<WifiConnectFailure>) -> FailureParts
     ensures { result ≡ to.failure_parts f }
 {
     match f {
-        ConnectFailure::None => failed(0, 0, 0),
-        ConnectFailure::Some(x) => failure_kind(x),
+        None => failed(0, 0, 0),
+        Some(x) => failure_kind(x),
     }
 }
 
@@ -76,11 +76,11 @@ fn kind_of(tag: u8, status: u32, reason: u32) -> WifiConnectFailure
     }
 }
 
-pub fn failure_of(p: FailureParts) -> ConnectFailure
+pub fn failure_of(p: FailureParts) -> Option<WifiConnectFailure>
     ensures { result ≡ to.failure_of p }
 {
     if p.tag == 0 {
-        return ConnectFailure::None;
+        return None;
     }
-    ConnectFailure::Some(kind_of(p.tag, p.status, p.reason))
+    Some(kind_of(p.tag, p.status, p.reason))
 }

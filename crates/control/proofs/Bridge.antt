@@ -9,9 +9,7 @@ use Rattle.wlan.specs.declared.WifiState.{WifiState}
 use Rattle.wlan.specs.declared.DriverError.{DriverError}
 use Rattle.wlan.specs.declared.AsyncEvent.{AsyncEvent}
 use Rattle.wlan.specs.declared.State.{State}
-use Rattle.wlan.specs.declared.ConnectFailure.{ConnectFailure}
 use Rattle.wlan.specs.State.{with_sdpcm, with_link}
-use Rattle.wlan.specs.declared.StartedTick.{StartedTick}
 use Rattle.wlan.specs.declared.Success.{Success}
 use Rattle.wlan.specs.declared.WlanPollResult.{WlanPollResult}
 use Rattle.wlan.specs.declared.SdpcmPacket.{SdpcmPacket}
@@ -35,7 +33,6 @@ use Rattle.device.specs.Poll.{poll_op, poll_start}
 use Rattle.device.proofs.Asking.{asking-bind, unroll-asking}
 use Rattle.device.proofs.Bridge.{poll-tells}
 use Rattle.device.proofs.Bridge as device-bridge
-use Rattle.send.specs.declared.HeaderPut.{HeaderPut}
 use Rattle.send.specs.declared.SendNext.{SendNext}
 use Rattle.send.specs.declared.SendPoint.{SendPoint}
 use Rattle.send.specs.Meaning.{laid_header, past, Ks, send_tree, send_step_at}
@@ -61,6 +58,9 @@ use Rattle.control.specs.Poll.{polling_step, polled_step, down_report, report_by
 use Rattle.control.specs.Begin.{call_answer, frame_out, sending_next, sending_step}
 use Rattle.control.specs.Exchange.{begins, sae_step, key_step, length_step, connecting_state, ssid_step, scan_step, after_step, failed_step, exchange_next, exchange_answer, pause_answer, settle_step, clock_answer, tick_answer}
 use Rattle.control.proofs.StageBridge.{Modest, len-fits, ask-is, plain-is, last-is, begin-is, begin-numbered-is, plain-begin, tried-begin}
+use Rattle.std.specs.Prelude.{Option, Some, None, ℕ}
+use Rattle.wlan.specs.declared.WifiConnectFailure.{WifiConnectFailure}
+use Rattle.send.specs.declared.Header.{Header}
 
 module _ (a : Args) (m : Modest a) where
   -- ---- what follows a stage
@@ -83,7 +83,7 @@ module _ (a : Args) (m : Modest a) where
       v : World
       v = world s (laid_before before w.buf) (list_heard h e w.list)
 
-      by : (b : Bool) → unroll (bind (pmk_set b a.second v) (λ u. after_key a)) ≡ call_shown a (pick b (step s h (lays before (RequestPut.Payload Request.Key) HeaderPut.None) (CallNext.Ask (CallPoint.Pause PausePoint.BeforeKey))) (sae_step a.job (lens_of a) s h before)) e w
+      by : (b : Bool) → unroll (bind (pmk_set b a.second v) (λ u. after_key a)) ≡ call_shown a (pick b (step s h (lays before (RequestPut.Payload Request.Key) None) (CallNext.Ask (CallPoint.Pause PausePoint.BeforeKey))) (sae_step a.job (lens_of a) s h before)) e w
       by true = refl
       by false = sae-is h before e s w
 
@@ -138,7 +138,7 @@ module _ (a : Args) (m : Modest a) where
 
   -- ---- a stage's exchange was refused
 
-  failed-is : (g : Stage) (h : Bool) (p : HeaderPut) (x : DriverError) (e : AsyncEvent) (s : State) (w : World) → unroll (refused_at a g x (world s (laid_header p w.buf) (list_heard h e w.list))) ≡ call_shown a (failed_step a.job (lens_of a) g s h p x) e w
+  failed-is : (g : Stage) (h : Bool) (p : Option Header) (x : DriverError) (e : AsyncEvent) (s : State) (w : World) → unroll (refused_at a g x (world s (laid_header p w.buf) (list_heard h e w.list))) ≡ call_shown a (failed_step a.job (lens_of a) g s h p x) e w
   unfolding unroll refused_at failed_step call_tree laid_all laid_before laid_request laid_header list_at
   failed-is g h p x e s w = by (is_dev_error x) (is_tried g) (is_last g)
     where
@@ -196,9 +196,9 @@ module _ (a : Args) (m : Modest a) where
   unfolding unroll failure_report report_by down_report call_tree success_of laid_before laid_request laid_header laid_all list_heard list_at
   report-is e w = by w.st.link.state w.st.link.connect_failure refl
     where
-      by : (s : WifiState) (f : ConnectFailure) → f ≡ w.st.link.connect_failure → unroll (failure_report s f w) ≡ call_shown a (report_by w.st s) e w
-      by WifiState.Down ConnectFailure.None q = rw (← q) refl
-      by WifiState.Down (ConnectFailure.Some f) q = rw (← q) refl
+      by : (s : WifiState) (f : Option WifiConnectFailure) → f ≡ w.st.link.connect_failure → unroll (failure_report s f w) ≡ call_shown a (report_by w.st s) e w
+      by WifiState.Down None q = rw (← q) refl
+      by WifiState.Down (Some f) q = rw (← q) refl
       by WifiState.Connecting f q = refl
       by WifiState.Connected f q = refl
       by WifiState.Disconnecting f q = refl
@@ -206,10 +206,10 @@ module _ (a : Args) (m : Modest a) where
   reported : M Result
   reported v = failure_report v.st.link.state v.st.link.connect_failure v
 
-  tick_is : (t : StartedTick) (e : AsyncEvent) (w : World) → unroll (bind (disconnect_timeout WifiState.Disconnecting t w) (λ u. reported)) ≡ call_shown a (tick_step w.st t) e w
+  tick_is : (t : Option ℕ) (e : AsyncEvent) (w : World) → unroll (bind (disconnect_timeout WifiState.Disconnecting t w) (λ u. reported)) ≡ call_shown a (tick_step w.st t) e w
   unfolding unroll bind disconnect_timeout operate tick_step reported call_tree call_op secret_at secretly asking Kc laid_before laid_request laid_header laid_all list_heard list_at
-  tick_is StartedTick.None e w = report-is e w
-  tick_is (StartedTick.Some n) e w = refl
+  tick_is None e w = report-is e w
+  tick_is (Some n) e w = refl
 
   nothing_is : (e : AsyncEvent) (w : World) → unroll (polled false w) ≡ call_shown a (nothing_step w.st) e w
   unfolding bind polled disconnect_timeout nothing_by reported

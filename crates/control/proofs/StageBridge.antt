@@ -31,7 +31,6 @@ use Rattle.requests.specs.Number.{name_length, payload_length}
 use Rattle.requests.proofs.Number.{payload-length}
 use Rattle.device.specs.Meaning.{op_in, asking}
 use Rattle.device.proofs.Asking.{asking-bind, asking-attempt, unroll-asking}
-use Rattle.send.specs.declared.HeaderPut.{HeaderPut}
 use Rattle.send.specs.declared.SendNext.{SendNext}
 use Rattle.send.specs.declared.SendPoint.{SendPoint}
 use Rattle.send.specs.declared.StallPoint.{StallPoint}
@@ -53,6 +52,8 @@ use Rattle.control.specs.Steps.{call_op, lays, step, linked_state}
 use Rattle.control.specs.Stages.{request_at, request_len, is_tried, is_last}
 use Rattle.control.specs.Exchange.{unbegun, begun_by, new_id, begins, begins_numbered}
 use Rattle.control.specs.Meaning.{Args, lens_of, request_in, len_at, laid_before, laid_request, laid_all, list_at, rest, refused_at, after_stage, Kc, secret_at, call_tree, call_shown, step_world}
+use Rattle.std.specs.Prelude.{Option}
+use Rattle.send.specs.declared.Header.{Header}
 
 -- the byte arguments are not so long that a length does not fit 16 bits
 abbrev pub Modest : Args → Type 0
@@ -178,7 +179,7 @@ module _ (a : Args) where
   Begins g (IoctlNext.Done c) = ⊥
   Begins g (IoctlNext.Refused p e) = is_tried g ≡ false
 
-  unbegun-is : (g : Stage) (x : DriverError) (h : Bool) (before : Before) (put : RequestPut) (p : HeaderPut) (e : AsyncEvent) (s : State) (w : World) → is_tried g ≡ false → unroll (refused_at a g x (world s (laid_header p (laid_request a put (laid_before before w.buf))) (list_heard h e w.list))) ≡ call_shown a (unbegun s g h (lays before put p) x) e w
+  unbegun-is : (g : Stage) (x : DriverError) (h : Bool) (before : Before) (put : RequestPut) (p : Option Header) (e : AsyncEvent) (s : State) (w : World) → is_tried g ≡ false → unroll (refused_at a g x (world s (laid_header p (laid_request a put (laid_before before w.buf))) (list_heard h e w.list))) ≡ call_shown a (unbegun s g h (lays before put p) x) e w
   unfolding unroll refused_at unbegun call_tree laid_all list_at
   unbegun-is g x h before put p e s w t = rw t (by (is_dev_error x) (is_last g))
     where

@@ -9,7 +9,6 @@ use lib.ListN.{length}
 use Rattle.slices.specs.Pick.{pick}
 use Rattle.slices.specs.Over.{over}
 use Rattle.wlan.specs.State.{with_link, set_failure}
-use Rattle.wlan.specs.declared.ConnectFailure.{ConnectFailure}
 use Rattle.wlan.specs.declared.WifiAuth.{WifiAuth}
 use Rattle.wlan.specs.declared.WifiState.{WifiState}
 use Rattle.wlan.specs.declared.DriverError.{DriverError}
@@ -44,6 +43,7 @@ use Rattle.control.specs.Begin.{exchanges_step, scan_start, join_by, join_start,
 use Rattle.control.specs.Meaning.{Args, lens_of, request_in, laid_before, laid_request, laid_all, list_at, success_of, rest, call_tree, call_shown, ssid_tried}
 use Rattle.control.proofs.StageBridge.{Modest, plain-begin}
 use Rattle.control.proofs.Bridge.{polling-is, sending-is}
+use Rattle.std.specs.Prelude.{None}
 
 module _ (a : Args) (m : Modest a) where
   -- from an exchange on
@@ -149,7 +149,7 @@ module _ (a : Args) (m : Modest a) where
         by : (s : WifiState) → unroll (if_down (λ v. joined a.job.auth ssid passphrase (unfailed v)) s w) ≡ call_shown a (join_by a.job (lens_of a) w.st s) e w
         by WifiState.Down =
             ap (λ k. unroll (bind (exchange (request_in a Stage.JoinBaWsize) (unfailed w)) (λ u. k))) (after_is j)
-            ∙ exchanges-is Stage.JoinBaWsize e (with_link w.st (set_failure w.st.link ConnectFailure.None)) w refl refl
+            ∙ exchanges-is Stage.JoinBaWsize e (with_link w.st (set_failure w.st.link None)) w refl refl
         by WifiState.Connecting = refl
         by WifiState.Connected = refl
         by WifiState.Disconnecting = refl

@@ -1,14 +1,11 @@
 -- A call's beginning, and its step at any point, as the code computes them.
-use Rattle.std.specs.Prelude.{ℕ, Bool, true, false}
+use Rattle.std.specs.Prelude.{ℕ, Bool, true, false, None}
 use Rattle.slices.specs.Pick.{pick}
 use Rattle.wlan.specs.State.{with_link, set_failure}
-use Rattle.wlan.specs.declared.BusAnswer.{BusAnswer}
-use Rattle.wlan.specs.declared.ConnectFailure.{ConnectFailure}
 use Rattle.wlan.specs.declared.WifiState.{WifiState}
 use Rattle.wlan.specs.declared.DriverError.{DriverError}
 use Rattle.wlan.specs.declared.State.{State}
 use Rattle.device.specs.declared.Arrival.{Arrival}
-use Rattle.send.specs.declared.HeaderPut.{HeaderPut}
 use Rattle.send.specs.declared.OutPacket.{OutPacket}
 use Rattle.send.specs.declared.SendNext.{SendNext}
 use Rattle.send.specs.declared.SendStep.{SendStep}
@@ -25,6 +22,7 @@ use Rattle.control.specs.declared.CallStep.{CallStep}
 use Rattle.control.specs.Steps.{lays, step, ends, refuses}
 use Rattle.control.specs.Exchange.{begins, exchange_answer, pause_answer, clock_answer, tick_answer}
 use Rattle.control.specs.Poll.{poll_point, poll_tick}
+use Rattle.wlan.specs.Results.{BusAnswer}
 
 abbrev pub exchanges_step : Job → Lens → Stage → State → CallStep
 exchanges_step j l g s = begins j l g s false Before.None
@@ -33,7 +31,7 @@ unfoldable pub scan_start : Job → Lens → State → CallStep
 scan_start j l s = pick s.scan.scan_in_progress (ends s false Before.None Ending.Done) (exchanges_step j l Stage.Escan s)
 
 abbrev pub join_down : Job → Lens → State → CallStep
-join_down j l s = exchanges_step j l Stage.JoinBaWsize (with_link s (set_failure s.link ConnectFailure.None))
+join_down j l s = exchanges_step j l Stage.JoinBaWsize (with_link s (set_failure s.link None))
 
 unfoldable pub join_by : Job → Lens → State → WifiState → CallStep
 join_by j l s WifiState.Down = join_down j l s
@@ -49,7 +47,7 @@ frame_out j = record { channel = 2; size = j.size }
 
 unfoldable pub sending_next : State → Bool → RequestPut → SendNext → CallStep
 sending_next s h put (SendNext.Ask p q) = step s h (lays Before.None put p) (CallNext.Ask (CallPoint.Send q))
-sending_next s h put SendNext.Sent = step s h (lays Before.None put HeaderPut.None) (CallNext.Ended Ending.Done)
+sending_next s h put SendNext.Sent = step s h (lays Before.None put None) (CallNext.Ended Ending.Done)
 sending_next s h put (SendNext.Refused p e) = step s h (lays Before.None put p) (CallNext.Refused e)
 
 unfoldable pub sending_step : SendStep → RequestPut → CallStep

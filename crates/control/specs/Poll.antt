@@ -1,14 +1,10 @@
 -- `poll`, as the code computes it.
-use Rattle.std.specs.Prelude.{ℕ, Bool, true, false, ltb, leb}
+use Rattle.std.specs.Prelude.{ℕ, Bool, true, false, ltb, leb, Option, Some, None, Ok, Err}
 use Rattle.slices.specs.Pick.{pick}
 use Rattle.wlan.specs.State.{with_sdpcm, with_pending, with_link, set_frame, set_failure}
-use Rattle.wlan.specs.declared.BusAnswer.{BusAnswer}
-use Rattle.wlan.specs.declared.ConnectFailure.{ConnectFailure}
-use Rattle.wlan.specs.declared.StartedTick.{StartedTick}
 use Rattle.wlan.specs.declared.WifiState.{WifiState}
 use Rattle.wlan.specs.declared.DriverError.{DriverError}
 use Rattle.wlan.specs.declared.WlanPollResult.{WlanPollResult}
-use Rattle.wlan.specs.declared.PendingRx.{PendingRx}
 use Rattle.wlan.specs.declared.AsyncEvent.{AsyncEvent}
 use Rattle.wlan.specs.declared.SdpcmPacket.{SdpcmPacket}
 use Rattle.wlan.specs.declared.State.{State}
@@ -25,6 +21,8 @@ use Rattle.control.specs.declared.CallPoint.{CallPoint}
 use Rattle.control.specs.declared.Before.{Before}
 use Rattle.control.specs.declared.CallStep.{CallStep}
 use Rattle.control.specs.Steps.{asks, ends, refuses}
+use Rattle.wlan.specs.declared.WifiConnectFailure.{WifiConnectFailure}
+use Rattle.wlan.specs.Results.{BusAnswer}
 
 unfoldable pub polling_step : State → Bool → CallStep
 polling_step s h = asks s h Before.None (CallPoint.Poll (poll_start s.sdpcm))
@@ -32,9 +30,9 @@ polling_step s h = asks s h Before.None (CallPoint.Poll (poll_start s.sdpcm))
 abbrev pub polled_step : State → WlanPollResult → CallStep
 polled_step s p = ends s false Before.None (Ending.Polled p)
 
-unfoldable pub down_report : State → ConnectFailure → CallStep
-down_report s ConnectFailure.None = polled_step s WlanPollResult.None
-down_report s (ConnectFailure.Some f) = polled_step (with_link s (set_failure s.link ConnectFailure.None)) (WlanPollResult.ConnectFailed f)
+unfoldable pub down_report : State → Option WifiConnectFailure → CallStep
+down_report s None = polled_step s WlanPollResult.None
+down_report s (Some f) = polled_step (with_link s (set_failure s.link None)) (WlanPollResult.ConnectFailed f)
 
 unfoldable pub report_by : State → WifiState → CallStep
 report_by s WifiState.Down = down_report s s.link.connect_failure
@@ -45,9 +43,9 @@ report_by s WifiState.Disconnecting = polled_step s WlanPollResult.None
 abbrev pub report_step : State → CallStep
 report_step s = report_by s s.link.state
 
-unfoldable pub tick_step : State → StartedTick → CallStep
-tick_step s StartedTick.None = report_step s
-tick_step s (StartedTick.Some n) = asks s false Before.None (CallPoint.PollTick n)
+unfoldable pub tick_step : State → Option ℕ → CallStep
+tick_step s None = report_step s
+tick_step s (Some n) = asks s false Before.None (CallPoint.PollTick n)
 
 unfoldable pub nothing_by : State → WifiState → CallStep
 nothing_by s WifiState.Down = report_step s
@@ -59,7 +57,7 @@ abbrev pub nothing_step : State → CallStep
 nothing_step s = nothing_by s s.link.state
 
 abbrev pub held : State → ℕ → ℕ → State
-held s offset len = with_pending s (set_frame s.pending (PendingRx.Some (record { offset = offset; len = len })))
+held s offset len = with_pending s (set_frame s.pending (Some (record { offset = offset; len = len })))
 
 unfoldable pub frame_step : State → ℕ → ℕ → CallStep
 frame_step s offset len = pick (ltb len 14) (polling_step s false) (polled_step (held s offset len) WlanPollResult.Rx)
@@ -82,5 +80,5 @@ unfoldable pub timed_out_state : State → ℕ → ℕ → State
 timed_out_state s started tick = pick (leb 1000 (elapsed started tick)) (with_link s (released s.link)) s
 
 unfoldable pub poll_tick : State → ℕ → BusAnswer → CallStep
-poll_tick s started (BusAnswer.Value t) = report_step (timed_out_state s started t)
-poll_tick s started (BusAnswer.Fault p) = refuses s false Before.None (DriverError.Fault p)
+poll_tick s started (Ok t) = report_step (timed_out_state s started t)
+poll_tick s started (Err f) = refuses s false Before.None (DriverError.Fault f.place)

@@ -11,14 +11,15 @@ use entering::poll_entry::poll_entered;
 use entering::send_entry::send_entered;
 use entering::take_entry::take_entered;
 use fresh_session::put_fresh;
+use wlan::SESSION_LEN;
 
 // Where the bytes have a session's length, they become a fresh session's.
 pub fn cyw43_fresh(session: &mut [u8]) -> u32
     ensures { (result ≡ pick (eqb (length session.old) 1393) 0 100) × (session.new ≡ pick (eqb (length session.old) 1393) (session_bytes fresh_session) session.old) }
 {
-    if session.len() != 1393 {
+    let Some(session) = session.as_mut_array::<SESSION_LEN>() else {
         return 100;
-    }
+    };
     put_fresh(session);
     0
 }

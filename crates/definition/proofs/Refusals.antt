@@ -8,27 +8,28 @@ use lib.ListN.{length}
 use Rattle.slices.specs.Pick.{pick}
 use Rattle.slices.specs.Over.{over}
 use Rattle.slices.proofs.Over.{over-nil}
-use Rattle.wlan.specs.declared.Outcome.{Outcome}
 use Rattle.wlan.specs.declared.Refusal.{Refusal}
 use Rattle.definition.specs.Bus.{Bytes, Answer, answers, Ans, Taken, got, wrong, taken_by}
 use Rattle.definition.specs.Prog.{World, world, Prog}
 use Rattle.definition.specs.Poll.{Result}
 use Rattle.definition.specs.Calls.{Call, call}
 use Rattle.definition.specs.Run.{Rest, ended, refused, paused, full, settle, Run, answered, unanswered, resumed, run, rolled_back, run_of, End, shown, called}
+use Rattle.std.specs.Prelude.{Ok, Err}
+use Rattle.wlan.specs.Results.{Outcome}
 
 -- 'After 8, 9, 12 and 13 state and buffer are as at entry': e; of the other outcomes nothing is said
 abbrev pub Undone : World → Outcome → World → Type 0
-Undone e (Outcome.Ok x) w = Unit {0}
-Undone e (Outcome.Refused (Refusal.Driver x)) w = Unit {0}
-Undone e (Outcome.Refused Refusal.Unrecorded) w = w ≡ e
-Undone e (Outcome.Refused Refusal.WrongAnswer) w = w ≡ e
-Undone e (Outcome.Refused Refusal.LogFull) w = w ≡ e
-Undone e (Outcome.Refused Refusal.BufferLength) w = w ≡ e
+Undone e (Ok x) w = Unit {0}
+Undone e (Err (Refusal.Driver x)) w = Unit {0}
+Undone e (Err Refusal.Unrecorded) w = w ≡ e
+Undone e (Err Refusal.WrongAnswer) w = w ≡ e
+Undone e (Err Refusal.LogFull) w = w ≡ e
+Undone e (Err Refusal.BufferLength) w = w ≡ e
 
 -- 'Outputs are untouched by a refusal.'
 abbrev Silent : Outcome → Bytes → Type 0
-Silent (Outcome.Ok x) b = Unit {0}
-Silent (Outcome.Refused r) b = b ≡ []
+Silent (Ok x) b = Unit {0}
+Silent (Err r) b = b ≡ []
 
 -- a run leaves what its outcome says
 record Leaves (e : World) (r : Run) : Type 0 where
@@ -75,12 +76,12 @@ world_of e = world e.st e.buf e.list
 
 module _ (c : Call) (w : World) (recording log : List ℕ) (out : Bytes) where
   -- 8, 9, 12 and 13 leave state, work buffer and scan list as at entry
-  pub rolled-back : (r : Refusal) → (called c w recording log out).outcome ≡ Outcome.Refused r → Undone w (Outcome.Refused r) (world_of (called c w recording log out))
+  pub rolled-back : (r : Refusal) → (called c w recording log out).outcome ≡ Err r → Undone w (Err r) (world_of (called c w recording log out))
   unfolding called shown
   rolled-back r e = rw e at (run_of-leaves c w recording (length log)).undone
 
   -- a refusal leaves the output
-  pub output-kept : (r : Refusal) → (called c w recording log out).outcome ≡ Outcome.Refused r → (called c w recording log out).output ≡ out
+  pub output-kept : (r : Refusal) → (called c w recording log out).outcome ≡ Err r → (called c w recording log out).output ≡ out
   unfolding called shown
   output-kept r e =
       let s : (run_of c w recording (length log)).output ≡ [] = rw e at (run_of-leaves c w recording (length log)).silent in

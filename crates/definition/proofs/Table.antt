@@ -10,13 +10,8 @@ use Rattle.slices.specs.Le.{le32, round4}
 use Rattle.wlan.specs.State.{fresh, with_sdpcm, with_pending, with_scan, with_link, sdpcm_of, set_frame, link_of}
 use Rattle.wlan.specs.declared.WifiState.{WifiState}
 use Rattle.wlan.specs.declared.WifiAuth.{WifiAuth}
-use Rattle.wlan.specs.declared.ConnectFailure.{ConnectFailure}
-use Rattle.wlan.specs.declared.StartedTick.{StartedTick}
-use Rattle.wlan.specs.declared.PendingResp.{PendingResp}
-use Rattle.wlan.specs.declared.PendingRx.{PendingRx}
 use Rattle.wlan.specs.declared.ScanList.{ScanList}
 use Rattle.wlan.specs.declared.Interface.{Interface}
-use Rattle.wlan.specs.declared.Received.{Received}
 use Rattle.wlan.specs.declared.SdpcmPacket.{SdpcmPacket}
 use Rattle.wlan.specs.declared.RxPacket.{RxPacket}
 use Rattle.wlan.specs.declared.Sdpcm.{Sdpcm}
@@ -29,6 +24,11 @@ use Rattle.definition.specs.Run.{End, called}
 use Rattle.definition.specs.Player.{Line, line, bad_line, numbers, empty_list, play}
 use Rattle.definition.specs.Open.{opened}
 use Rattle.definition.proofs.Recordings.{packet_of, interrupt, status, came, clock, tick, done, fault, waiting}
+use Rattle.std.specs.Prelude.{Option, Some, None, Ok, Err}
+use Rattle.wlan.specs.declared.PendingIoctlResp.{PendingIoctlResp}
+use Rattle.wlan.specs.declared.PendingBuf.{PendingBuf}
+use Rattle.wlan.specs.Results.{Received}
+use Rattle.wlan.specs.declared.RxError.{RxError}
 
 -- ---- what a row is, and what it shows
 
@@ -47,7 +47,7 @@ pub data Shown : Type 0 where
   packet : ℕ → ℕ → Received → Shown
   -- refusal, value, state, sequence, credit, flow, id, log words; the good-packet mark, what waits, how many networks; the work
   -- buffer's first byte; the log
-  call : List ℕ → Bool → PendingResp → PendingRx → ℕ → ℕ → List ℕ → Shown
+  call : List ℕ → Bool → Option PendingIoctlResp → Option PendingBuf → ℕ → ℕ → List ℕ → Shown
   limit : List ℕ → ℕ → Shown
   lines : List Line → Shown
 
@@ -98,10 +98,10 @@ abbrev heard_one : World
 heard_one = world (with_sdpcm fresh (sdpcm 0 1 true)) (replicate 2048 9) (record { records = empty_list.records; count = 1 })
 
 abbrev leaving : ℕ → World
-leaving t = from (with_link fresh (link_of WifiState.Disconnecting ConnectFailure.None WifiAuth.Open (StartedTick.Some t)))
+leaving t = from (with_link fresh (link_of WifiState.Disconnecting None WifiAuth.Open (Some t)))
 
 abbrev holding : ℕ → World
-holding n = from (with_pending fresh (set_frame fresh.pending (PendingRx.Some (record { offset = 16; len = n }))))
+holding n = from (with_pending fresh (set_frame fresh.pending (Some (record { offset = 16; len = n }))))
 
 -- ---- whole exchanges, the mark set: F2 is ready, the write is done, the clock is read twice, and a reply to id n comes
 abbrev exchanged : ℕ → List ℕ
@@ -115,10 +115,10 @@ exchanges n (suc k) rest = exchanged n ++ exchanges (n + 1) k rest
 -- ---- the rows
 
 abbrev none : Received
-none = Received.Packet SdpcmPacket.None
+none = Ok SdpcmPacket.None
 
 abbrev quiet : List ℕ → Bool → List ℕ → Shown
-quiet ns mark log = call ns mark PendingResp.None PendingRx.None 0 9 log
+quiet ns mark log = call ns mark None None 0 9 log
 
 abbrev at250 : ℕ → Case
 at250 credit = reading (sdpcm 0 250 true) (packet_of 12 0 12 7 credit [])
@@ -238,12 +238,12 @@ results =
     ∷ packet 7 250 none
     ∷ packet 7 250 none
     ∷ packet 0 3 none
-    ∷ packet 0 3 (Received.Packet (SdpcmPacket.Data 16 1 Interface.Sta))
+    ∷ packet 0 3 (Ok (SdpcmPacket.Data 16 1 Interface.Sta))
     ∷ packet 0 3 none
     ∷ packet 0 3 none
-    ∷ packet 0 3 (Received.Packet (SdpcmPacket.Control 28 0 (pos 0)))
-    ∷ packet 0 3 (Received.Packet (SdpcmPacket.AsyncEvent 12 0))
-    ∷ packet 0 3 Received.HeaderBeyond
+    ∷ packet 0 3 (Ok (SdpcmPacket.Control 28 0 (pos 0)))
+    ∷ packet 0 3 (Ok (SdpcmPacket.AsyncEvent 12 0))
+    ∷ packet 0 3 (Err RxError.HeaderBeyond)
     ∷ quiet (8 ∷ 0 ∷ 0 ∷ 0 ∷ 1 ∷ 0 ∷ 0 ∷ 2 ∷ []) true (0x20000000 ∷ 0x30000600 ∷ [])
     ∷ quiet (0 ∷ 0 ∷ 0 ∷ 0 ∷ 1 ∷ 0 ∷ 0 ∷ 2 ∷ []) false (0x20000000 ∷ 0x90000001 ∷ [])
     ∷ lines
@@ -265,18 +265,18 @@ results =
     ∷ 0x3000001c
     ∷ [])
     ∷ [])
-    ∷ packet 0 3 (Received.Packet (SdpcmPacket.Control 28 0 (negsuc 0)))
+    ∷ packet 0 3 (Ok (SdpcmPacket.Control 28 0 (negsuc 0)))
     ∷ packet 0 3 none
-    ∷ packet 0 3 (Received.Packet (SdpcmPacket.Data 16 4 Interface.Sta))
-    ∷ call (0 ∷ 1 ∷ 0 ∷ 0 ∷ 1 ∷ 0 ∷ 0 ∷ 2 ∷ []) true PendingResp.None (PendingRx.Some (record { offset = 16; len = 44 })) 0 60 (0x20000000 ∷ 0x30000014 ∷ [])
-    ∷ call (0 ∷ 0 ∷ 0 ∷ 0 ∷ 2 ∷ 0 ∷ 0 ∷ 3 ∷ []) false (PendingResp.Some (record { buf = record { offset = 28; len = 0 }; status = pos 0 })) PendingRx.None 0 28
+    ∷ packet 0 3 (Ok (SdpcmPacket.Data 16 4 Interface.Sta))
+    ∷ call (0 ∷ 1 ∷ 0 ∷ 0 ∷ 1 ∷ 0 ∷ 0 ∷ 2 ∷ []) true None (Some (record { offset = 16; len = 44 })) 0 60 (0x20000000 ∷ 0x30000014 ∷ [])
+    ∷ call (0 ∷ 0 ∷ 0 ∷ 0 ∷ 2 ∷ 0 ∷ 0 ∷ 3 ∷ []) false (Some (record { buf = record { offset = 28; len = 0 }; status = pos 0 })) None 0 28
     (0x20000000 ∷ 0x3000001c ∷ 0x20000000 ∷ [])
     ∷ lines
     (line (6 ∷ 0 ∷ 0 ∷ 0 ∷ 0 ∷ 2 ∷ 0 ∷ 0 ∷ 5 ∷ []) (0x10000000 ∷ 0x80000020 ∷ 0x20000000 ∷ 0x3000001c ∷ 0x20000000 ∷ [])
     ∷ line (14 ∷ 0 ∷ 0 ∷ 0 ∷ 1 ∷ 2 ∷ 0 ∷ 1 ∷ 9 ∷ []) (0x20000000 ∷ 0x6000001c ∷ 0xffe3001c ∷ 0x0c000000 ∷ 0 ∷ 2 ∷ 0 ∷ 0x00010002 ∷ 0 ∷ [])
     ∷ [])
-    ∷ call (0 ∷ 0 ∷ 0 ∷ 6 ∷ 6 ∷ 0 ∷ 1 ∷ 13 ∷ []) false PendingResp.None PendingRx.None 0 28 (0x40000000 ∷ 0x20000000 ∷ 0x3000001c ∷ 0x20000000 ∷ 0x20000000 ∷ 0x6000001c ∷ 0xffe3001c ∷ 0xc000005 ∷ 0 ∷ 0 ∷ 0 ∷ 0x10000 ∷ 0 ∷ [])
-    ∷ call (0 ∷ 0 ∷ 0 ∷ 6 ∷ 6 ∷ 0 ∷ 0 ∷ 11 ∷ []) true PendingResp.None PendingRx.None 0 22 (0x40000000 ∷ 0x20000000 ∷ 0x30000016 ∷ 0x20000000 ∷ 0x60000018 ∷ 0xffe90016 ∷ 0xe000205 ∷ 0 ∷ 0 ∷ 0x36353433 ∷ 0x36353837 ∷ [])
+    ∷ call (0 ∷ 0 ∷ 0 ∷ 6 ∷ 6 ∷ 0 ∷ 1 ∷ 13 ∷ []) false None None 0 28 (0x40000000 ∷ 0x20000000 ∷ 0x3000001c ∷ 0x20000000 ∷ 0x20000000 ∷ 0x6000001c ∷ 0xffe3001c ∷ 0xc000005 ∷ 0 ∷ 0 ∷ 0 ∷ 0x10000 ∷ 0 ∷ [])
+    ∷ call (0 ∷ 0 ∷ 0 ∷ 6 ∷ 6 ∷ 0 ∷ 0 ∷ 11 ∷ []) true None None 0 22 (0x40000000 ∷ 0x20000000 ∷ 0x30000016 ∷ 0x20000000 ∷ 0x60000018 ∷ 0xffe90016 ∷ 0xe000205 ∷ 0 ∷ 0 ∷ 0x36353433 ∷ 0x36353837 ∷ [])
     ∷ quiet (8 ∷ 0 ∷ 0 ∷ 5 ∷ 5 ∷ 0 ∷ 0 ∷ 5 ∷ []) true (0x40000000 ∷ 0x20000000 ∷ 0x40000000 ∷ 0xa00186a0 ∷ 0x10000000 ∷ [])
     ∷ quiet (2 ∷ 0 ∷ 0 ∷ 5 ∷ 5 ∷ 0 ∷ 1 ∷ 3 ∷ []) false (0x40000000 ∷ 0x20000000 ∷ 0x40000000 ∷ [])
     ∷ limit (10 ∷ 0 ∷ 1 ∷ 10 ∷ 11 ∷ 0 ∷ 10 ∷ 171 ∷ []) 0
@@ -284,8 +284,8 @@ results =
     ∷ limit (3 ∷ 0 ∷ 0 ∷ 1 ∷ 2 ∷ 0 ∷ 1 ∷ 34 ∷ []) 1
     ∷ limit (0 ∷ 0 ∷ 0 ∷ 1 ∷ 2 ∷ 0 ∷ 1 ∷ 34 ∷ []) 0
     ∷ quiet (0 ∷ 0 ∷ 0 ∷ 0 ∷ 1 ∷ 0 ∷ 0 ∷ 0 ∷ []) false []
-    ∷ call (0 ∷ 0 ∷ 0 ∷ 0 ∷ 1 ∷ 0 ∷ 0 ∷ 3 ∷ []) false PendingResp.None PendingRx.None 0 59 (0x20000000 ∷ 0x3000003b ∷ 0x20000000 ∷ [])
-    ∷ call (0 ∷ 0 ∷ 2 ∷ 0 ∷ 1 ∷ 0 ∷ 0 ∷ 3 ∷ []) false PendingResp.None PendingRx.None 0 60 (0x20000000 ∷ 0x3000003c ∷ 0x20000000 ∷ [])
+    ∷ call (0 ∷ 0 ∷ 0 ∷ 0 ∷ 1 ∷ 0 ∷ 0 ∷ 3 ∷ []) false None None 0 59 (0x20000000 ∷ 0x3000003b ∷ 0x20000000 ∷ [])
+    ∷ call (0 ∷ 0 ∷ 2 ∷ 0 ∷ 1 ∷ 0 ∷ 0 ∷ 3 ∷ []) false None None 0 60 (0x20000000 ∷ 0x3000003c ∷ 0x20000000 ∷ [])
     ∷ quiet (0 ∷ 0 ∷ 3 ∷ 0 ∷ 1 ∷ 0 ∷ 0 ∷ 2 ∷ []) false (0x10000000 ∷ 0x50000000 ∷ [])
     ∷ quiet (0 ∷ 0 ∷ 0 ∷ 0 ∷ 1 ∷ 0 ∷ 0 ∷ 2 ∷ []) false (0x10000000 ∷ 0x50000000 ∷ [])
     ∷ quiet (8 ∷ 0 ∷ 0 ∷ 0 ∷ 1 ∷ 0 ∷ 0 ∷ 9 ∷ []) true (0x20000000 ∷ 0x6000001c ∷ 0xffe3001c ∷ 0xc000000 ∷ 0 ∷ 2 ∷ 0 ∷ 0x10002 ∷ 0 ∷ [])
@@ -297,7 +297,7 @@ results =
     ∷ quiet (9 ∷ 0 ∷ 0 ∷ 0 ∷ 1 ∷ 0 ∷ 0 ∷ 1 ∷ []) false (0x10000000 ∷ [])
     ∷ quiet (7 ∷ 9 ∷ 0 ∷ 0 ∷ 1 ∷ 0 ∷ 0 ∷ 1 ∷ []) false (0x10000000 ∷ [])
     ∷ quiet (9 ∷ 0 ∷ 0 ∷ 5 ∷ 5 ∷ 0 ∷ 0 ∷ 1 ∷ []) true (0x40000000 ∷ [])
-    ∷ call (7 ∷ 4 ∷ 0 ∷ 0 ∷ 1 ∷ 0 ∷ 0 ∷ 2 ∷ []) true PendingResp.None PendingRx.None 0 5 (0x20000000 ∷ 0x30000005 ∷ [])
+    ∷ call (7 ∷ 4 ∷ 0 ∷ 0 ∷ 1 ∷ 0 ∷ 0 ∷ 2 ∷ []) true None None 0 5 (0x20000000 ∷ 0x30000005 ∷ [])
     ∷ quiet (5 ∷ 0 ∷ 0 ∷ 0 ∷ 1 ∷ 0 ∷ 0 ∷ 0 ∷ []) false []
     ∷ quiet (6 ∷ 0 ∷ 0 ∷ 0 ∷ 1 ∷ 0 ∷ 0 ∷ 0 ∷ []) false []
     ∷ quiet (4 ∷ 0 ∷ 3 ∷ 0 ∷ 1 ∷ 0 ∷ 0 ∷ 0 ∷ []) false []

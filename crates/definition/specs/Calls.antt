@@ -1,14 +1,12 @@
 -- 'cyw43_inner.rs': the fourteen calls.
-use Rattle.std.specs.Prelude.{ℕ, ◌+◌, ◌-◌, ◌*◌, ◌%◌, ◌^◌, Bool, true, false, ◌&&◌, ◌||◌, List, [], ◌∷◌, ltb, leb, eqb, length, take, drop, get_or}
+use Rattle.std.specs.Prelude.{ℕ, ◌+◌, ◌-◌, ◌*◌, ◌%◌, ◌^◌, Bool, true, false, ◌&&◌, ◌||◌, List, [], ◌∷◌, ltb, leb, eqb, length, take, drop, get_or, Option, Some, None}
 use Rattle.slices.specs.Pick.{pick}
 use Rattle.slices.specs.Over.{over}
 use Rattle.slices.specs.Le.{le32_at}
 use Rattle.wlan.specs.State.{with_scan, with_pending, with_link, set_frame, set_link_state, set_tick}
 use Rattle.wlan.specs.declared.WifiState.{WifiState}
-use Rattle.wlan.specs.declared.StartedTick.{StartedTick}
 use Rattle.wlan.specs.declared.DriverError.{DriverError}
 use Rattle.wlan.specs.declared.Success.{Success}
-use Rattle.wlan.specs.declared.PendingRx.{PendingRx}
 use Rattle.wlan.specs.declared.State.{State}
 use Rattle.definition.specs.Bus.{Bytes, Op, nowhere}
 use Rattle.definition.specs.Prog.{World, world, with_state, with_buf, Prog, ret, stop, say, M, bind, ◌>>=◌, ◌>>◌, operate, pause}
@@ -19,6 +17,7 @@ use Rattle.definition.specs.Send.{elapsed, clock, send_common}
 use Rattle.definition.specs.Ioctl.{exchange}
 use Rattle.definition.specs.Poll.{Result, giving, poll}
 use Rattle.definition.specs.Join.{tried, join}
+use Rattle.wlan.specs.declared.PendingBuf.{PendingBuf}
 
 -- a call with its arguments; numbers are as given, and the call tests them
 pub data Call : Type 0 where
@@ -86,7 +85,7 @@ scan w = pick w.st.scan.scan_in_progress (done w) ((exchange escan >> (λ v. don
 -- ---- leave, abort: Disassoc 52
 
 abbrev pub disconnecting : ℕ → World → World
-disconnecting t w = with_state w (with_link w.st (set_tick (set_link_state w.st.link WifiState.Disconnecting) (StartedTick.Some t)))
+disconnecting t w = with_state w (with_link w.st (set_tick (set_link_state w.st.link WifiState.Disconnecting) (Some t)))
 
 unfoldable pub disconnect : M Result
 disconnect = exchange (set_word 52 0 0) >> (operate Op.read_tick >>= λ t w. done (disconnecting t w))
@@ -104,12 +103,12 @@ send i frame w =
     (stop DriverError.InvalidArg w)
 
 abbrev pub frameless : World → World
-frameless w = with_state w (with_pending w.st (set_frame w.st.pending PendingRx.None))
+frameless w = with_state w (with_pending w.st (set_frame w.st.pending None))
 
 -- `get_rx_buf`: 5, 6, 11; n: the output's length
-unfoldable pub taken : ℕ → PendingRx → M Result
-taken n PendingRx.None w = stop DriverError.WouldBlock w
-taken n (PendingRx.Some f) w =
+unfoldable pub taken : ℕ → Option PendingBuf → M Result
+taken n None w = stop DriverError.WouldBlock w
+taken n (Some f) w =
     pick (ltb n f.len) (stop DriverError.NoMem (frameless w))
     (pick (ltb 2048 (f.offset + f.len)) (stop DriverError.PastBuffer (frameless w))
     (ret (record { success = Success.Taken f.len; output = take f.len (drop f.offset w.buf) }) (frameless w)))

@@ -1,5 +1,5 @@
 -- `read_bytes` and `sdpcm_poll_device`.
-use Rattle.std.specs.Prelude.{ℕ, zero, suc, ◌+◌, ◌/◌, ◌%◌, Bool, true, false, ◌&&◌, ◌||◌, List, [], ◌∷◌, ◌++◌, ltb, eqb, take, drop, replicate}
+use Rattle.std.specs.Prelude.{ℕ, zero, suc, ◌+◌, ◌/◌, ◌%◌, Bool, true, false, ◌&&◌, ◌||◌, List, [], ◌∷◌, ◌++◌, ltb, eqb, take, drop, replicate, Ok, Err}
 use Rattle.std.specs.Int.Bits.{bit_and}
 use Rattle.slices.specs.Pick.{pick}
 use Rattle.slices.specs.Over.{over}
@@ -7,12 +7,13 @@ use Rattle.slices.specs.Le.{le32, round4}
 use Rattle.wlan.specs.State.{with_sdpcm, set_mark}
 use Rattle.wlan.specs.declared.DriverError.{DriverError}
 use Rattle.wlan.specs.declared.SdpcmPacket.{SdpcmPacket}
-use Rattle.wlan.specs.declared.Received.{Received}
 use Rattle.wlan.specs.declared.RxPacket.{RxPacket}
 use Rattle.wlan.specs.declared.State.{State}
 use Rattle.definition.specs.Bus.{Bytes, Op, Ans}
 use Rattle.definition.specs.Prog.{World, with_state, with_buf, Note, Prog, ret, stop, ask, say, note, M, bind, ◌>>=◌, ◌>>◌, valued, operate}
 use Rattle.definition.specs.Packet.{size_in, complement_in, declared, advance, process_rx}
+use Rattle.wlan.specs.Results.{Received}
+use Rattle.wlan.specs.declared.RxError.{RxError}
 
 -- ---- `read_bytes`
 
@@ -35,8 +36,8 @@ had_packet s = s.sdpcm.had_successful_packet
 
 -- an event's header beyond its size ends the call
 unfoldable pub packet_in : Received → M SdpcmPacket
-packet_in (Received.Packet p) w = ret p w
-packet_in Received.HeaderBeyond w = stop DriverError.EventHeader w
+packet_in (Ok p) w = ret p w
+packet_in (Err RxError.HeaderBeyond) w = stop DriverError.EventHeader w
 
 unfoldable pub read_in : RxPacket → M SdpcmPacket
 read_in r w = packet_in r.received (with_state w (with_sdpcm w.st r.sdpcm))

@@ -1,13 +1,11 @@
 -- `handle_async_event`: an event's fields, and what it does to the connection and to the scan.
-use Rattle.std.specs.Prelude.{ℕ, ◌+◌, ◌-◌, ◌%◌, min, Bool, true, false, ◌||◌, not, List, [], ◌∷◌, ◌++◌, ltb, eqb, length, take, drop, get_or, replicate}
+use Rattle.std.specs.Prelude.{ℕ, ◌+◌, ◌-◌, ◌%◌, min, Bool, true, false, ◌||◌, not, List, [], ◌∷◌, ◌++◌, ltb, eqb, length, take, drop, get_or, replicate, Option, Some, None}
 use Rattle.slices.specs.Pick.{pick}
 use Rattle.slices.specs.Le.{be16_at, be32_at, le16_at, signed16}
 use Rattle.wlan.specs.State.{with_scan, with_link, set_link_state, set_failure, set_tick}
 use Rattle.wlan.specs.declared.WifiState.{WifiState}
 use Rattle.wlan.specs.declared.WifiAuth.{WifiAuth}
 use Rattle.wlan.specs.declared.WifiConnectFailure.{WifiConnectFailure}
-use Rattle.wlan.specs.declared.ConnectFailure.{ConnectFailure}
-use Rattle.wlan.specs.declared.StartedTick.{StartedTick}
 use Rattle.wlan.specs.declared.Link.{Link}
 use Rattle.wlan.specs.declared.ScanRecord.{ScanRecord}
 use Rattle.wlan.specs.declared.ScanMarks.{ScanMarks}
@@ -51,9 +49,9 @@ event_of part len =
 -- ---- the connection
 
 -- 'the first connect failure is kept'
-unfoldable pub first_failure : ConnectFailure → WifiConnectFailure → ConnectFailure
-first_failure ConnectFailure.None f = ConnectFailure.Some f
-first_failure (ConnectFailure.Some g) f = ConnectFailure.Some g
+unfoldable pub first_failure : Option WifiConnectFailure → WifiConnectFailure → Option WifiConnectFailure
+first_failure None f = Some f
+first_failure (Some g) f = Some g
 
 -- `set_connect_failure`
 unfoldable pub failing : Link → WifiConnectFailure → Link
@@ -68,7 +66,7 @@ link_lost l WifiState.Disconnecting = set_link_state l WifiState.Down
 
 -- down at last: no failure to report, no tick to wait from
 unfoldable pub released : Link → Link
-released l = set_tick (set_failure (set_link_state l WifiState.Down) ConnectFailure.None) StartedTick.None
+released l = set_tick (set_failure (set_link_state l WifiState.Down) None) None
 
 -- DEAUTH, DEAUTH_IND, DISASSOC, DISASSOC_IND
 unfoldable pub deauthenticated : Link → ℕ → WifiState → Link
@@ -89,7 +87,7 @@ ssid_set l WifiAuth.Wpa3Wpa2AesPsk = l
 -- PSK_SUP: 6 keyed, 7 timed out; reason 14 a deauthentication
 unfoldable pub supplicant : Link → ℕ → ℕ → Link
 supplicant l status reason =
-    pick (eqb status 6) (set_link_state (set_failure l ConnectFailure.None) WifiState.Connected)
+    pick (eqb status 6) (set_link_state (set_failure l None) WifiState.Connected)
     (pick (eqb status 7) (failing l WifiConnectFailure.Timeout)
     (pick (eqb reason 14) (failing l (WifiConnectFailure.PskFailed status reason)) l))
 

@@ -1,12 +1,12 @@
 -- A list of calls and its history: what theorems over all lists speak of.
-use Rattle.std.specs.Prelude.{Bool, true, false, List, [], ◌∷◌, ℕ, length}
+use Rattle.std.specs.Prelude.{Bool, true, false, List, [], ◌∷◌, ℕ, length, Ok, Err}
 use Rattle.slices.specs.Pick.{pick}
-use Rattle.wlan.specs.declared.Outcome.{Outcome}
 use Rattle.wlan.specs.declared.Refusal.{Refusal}
 use Rattle.definition.specs.Bus.{Bytes}
 use Rattle.definition.specs.Prog.{World, world, Note}
 use Rattle.definition.specs.Calls.{Call}
 use Rattle.definition.specs.Run.{Run, run_of, End, called}
+use Rattle.wlan.specs.Results.{Outcome}
 
 -- ---- a list of calls
 
@@ -38,12 +38,12 @@ folded f (n ∷ ns) g = folded f ns (f n g)
 
 -- 'After 8, 9, 12 and 13 state and buffer are as at entry'
 abbrev pub rolls_back : Outcome → Bool
-rolls_back (Outcome.Ok x) = false
-rolls_back (Outcome.Refused (Refusal.Driver e)) = false
-rolls_back (Outcome.Refused Refusal.Unrecorded) = true
-rolls_back (Outcome.Refused Refusal.WrongAnswer) = true
-rolls_back (Outcome.Refused Refusal.LogFull) = true
-rolls_back (Outcome.Refused Refusal.BufferLength) = true
+rolls_back (Ok x) = false
+rolls_back (Err (Refusal.Driver e)) = false
+rolls_back (Err Refusal.Unrecorded) = true
+rolls_back (Err Refusal.WrongAnswer) = true
+rolls_back (Err Refusal.LogFull) = true
+rolls_back (Err Refusal.BufferLength) = true
 
 -- 'Rolled-back calls count on neither side.'
 abbrev pub counted : {A : Type 0} → (Note → A → A) → Run → A → A

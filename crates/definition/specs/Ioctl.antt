@@ -1,11 +1,10 @@
 -- `do_ioctl`.
-use Rattle.std.specs.Prelude.{ℕ, ◌+◌, ◌%◌, min, Bool, true, false, ltb, eqb, ℤ, pos, negsuc, length, take, drop}
+use Rattle.std.specs.Prelude.{ℕ, ◌+◌, ◌%◌, min, Bool, true, false, ltb, eqb, ℤ, pos, negsuc, length, take, drop, Option, Some, None}
 use Rattle.slices.specs.Pick.{pick}
 use Rattle.slices.specs.Over.{over}
 use Rattle.wlan.specs.State.{with_sdpcm, with_pending, set_id, set_reply}
 use Rattle.wlan.specs.declared.DriverError.{DriverError}
 use Rattle.wlan.specs.declared.PendingIoctlResp.{PendingIoctlResp}
-use Rattle.wlan.specs.declared.PendingResp.{PendingResp}
 use Rattle.wlan.specs.declared.SdpcmPacket.{SdpcmPacket}
 use Rattle.definition.specs.Bus.{Bytes, Op}
 use Rattle.definition.specs.Prog.{World, world, with_state, with_buf, Turn, again, out, Loop, Prog, ret, stop, say, loop, M, bind, ◌>>=◌, ◌>>◌, raise}
@@ -58,12 +57,12 @@ abbrev pub awaited : ℕ → M PendingIoctlResp
 awaited t0 w = loop (Loop.reply_loop t0) w raise
 
 abbrev pub no_reply : World → World
-no_reply w = with_state w (with_pending w.st (set_reply w.st.pending PendingResp.None))
+no_reply w = with_state w (with_pending w.st (set_reply w.st.pending None))
 
 -- '`do_ioctl` first uses a stored reply, whatever id it had'
-unfoldable pub reply : PendingResp → M PendingIoctlResp
-reply PendingResp.None w = (clock >>= awaited) w
-reply (PendingResp.Some r) w = ret r (no_reply w)
+unfoldable pub reply : Option PendingIoctlResp → M PendingIoctlResp
+reply None w = (clock >>= awaited) w
+reply (Some r) w = ret r (no_reply w)
 
 -- ---- `do_ioctl`, the payload already laid
 

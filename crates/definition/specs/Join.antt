@@ -1,5 +1,5 @@
 -- `wifi_connect`.
-use Rattle.std.specs.Prelude.{ℕ, ◌+◌, Bool, true, false, ◌||◌, List, [], ◌∷◌, ltb, leb, eqb, length}
+use Rattle.std.specs.Prelude.{ℕ, ◌+◌, Bool, true, false, ◌||◌, List, [], ◌∷◌, ltb, leb, eqb, length, Option, Some, None}
 use Rattle.slices.specs.Pick.{pick}
 use Rattle.wlan.specs.Outcome.{error_number}
 use Rattle.wlan.specs.State.{with_link, set_link_state, set_auth}
@@ -7,14 +7,14 @@ use Rattle.wlan.specs.declared.WifiState.{WifiState}
 use Rattle.wlan.specs.declared.WifiAuth.{WifiAuth}
 use Rattle.wlan.specs.declared.DriverError.{DriverError}
 use Rattle.wlan.specs.declared.Success.{Success}
-use Rattle.wlan.specs.declared.PendingResp.{PendingResp}
-use Rattle.wlan.specs.declared.PendingRx.{PendingRx}
 use Rattle.wlan.specs.declared.State.{State}
 use Rattle.definition.specs.Bus.{Bytes}
 use Rattle.definition.specs.Prog.{World, with_state, Note, Fin, fine, failed, Prog, ret, stop, note, M, bind, ◌>>=◌, ◌>>◌, attempt, pause}
 use Rattle.definition.specs.Request.{Request, iovar, set_word, set_key, sae_password, join_ssid}
 use Rattle.definition.specs.Ioctl.{laid, do_ioctl, exchange}
 use Rattle.definition.specs.Poll.{Result, giving, unfailed}
+use Rattle.wlan.specs.declared.PendingIoctlResp.{PendingIoctlResp}
+use Rattle.wlan.specs.declared.PendingBuf.{PendingBuf}
 
 -- 'The tries that ignore an error ignore 1, 2, 3 and 7 only': what the Rust has as a `DevError`
 unfoldable pub is_dev_error : DriverError → Bool
@@ -74,13 +74,13 @@ auth_of n =
 -- ---- the passphrase
 
 -- 'A frame waits where take would not be refused 5, a reply where a stored Control is unused.'
-unfoldable pub frame_waits : PendingRx → Bool
-frame_waits PendingRx.None = false
-frame_waits (PendingRx.Some f) = true
+unfoldable pub frame_waits : Option PendingBuf → Bool
+frame_waits None = false
+frame_waits (Some f) = true
 
-unfoldable pub reply_waits : PendingResp → Bool
-reply_waits PendingResp.None = false
-reply_waits (PendingResp.Some r) = true
+unfoldable pub reply_waits : Option PendingIoctlResp → Bool
+reply_waits None = false
+reply_waits (Some r) = true
 
 unfoldable pub key_laid : Request → M (Unit {0})
 key_laid r w = note (Note.key_laid (frame_waits w.st.pending.rx) (reply_waits w.st.pending.ioctl_resp)) (ret tt (laid r w))

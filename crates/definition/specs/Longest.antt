@@ -1,9 +1,8 @@
 -- 'The longest log a poll can leave', by the words of its recording: the 65 numbers, and the statement.
-use Rattle.std.specs.Prelude.{◌≡◌, List, [], ◌∷◌, ℕ, zero, suc, ◌+◌, ◌-◌, ◌*◌, ◌/◌, ◌≤◌, eqb, length, take, replicate}
+use Rattle.std.specs.Prelude.{◌≡◌, List, [], ◌∷◌, ℕ, zero, suc, ◌+◌, ◌-◌, ◌*◌, ◌/◌, ◌≤◌, eqb, length, take, replicate, Err}
 use Rattle.slices.specs.Pick.{pick}
 use Rattle.wlan.specs.Outcome.{refusal_of}
 use Rattle.wlan.specs.State.{fresh}
-use Rattle.wlan.specs.declared.Outcome.{Outcome}
 use Rattle.wlan.specs.declared.Refusal.{Refusal}
 use Rattle.definition.specs.Bus.{Bytes, head}
 use Rattle.definition.specs.Prog.{World, world}
@@ -36,7 +35,7 @@ NoMore = (w : World) (recording log : List ℕ) (out : Bytes) → (after_poll w 
 -- what a board asks: into a log of so many words every operation fits, 12 does not come
 abbrev pub NeverFull : Type 0
 NeverFull =
-    (w : World) (recording log : List ℕ) (out : Bytes) → most (length recording) ≤ length log → (after_poll w recording log out).outcome ≡ Outcome.Refused Refusal.LogFull → ⊥
+    (w : World) (recording log : List ℕ) (out : Bytes) → most (length recording) ≤ length log → (after_poll w recording log out).outcome ≡ Err Refusal.LogFull → ⊥
 
 -- ---- 'supply a state and recording that reach it': a fresh state, and the first words of one recording
 

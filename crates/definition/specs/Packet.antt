@@ -1,14 +1,15 @@
 -- 'cyw43_sdpcm.rs': the SDPCM header, sent and received. A received packet is read from the bytes that it declares.
-use Rattle.std.specs.Prelude.{ℕ, ◌+◌, ◌-◌, ◌*◌, ◌/◌, ◌%◌, Bool, true, false, ◌&&◌, List, [], ◌∷◌, ◌++◌, ltb, leb, eqb, length, take, get_or}
+use Rattle.std.specs.Prelude.{ℕ, ◌+◌, ◌-◌, ◌*◌, ◌/◌, ◌%◌, Bool, true, false, ◌&&◌, List, [], ◌∷◌, ◌++◌, ltb, leb, eqb, length, take, get_or, Ok, Err}
 use Rattle.slices.specs.Pick.{pick}
 use Rattle.slices.specs.Le.{le16, le16_at, le32_at, signed32}
 use Rattle.wlan.specs.State.{set_credit, set_flow}
 use Rattle.wlan.specs.declared.Sdpcm.{Sdpcm}
 use Rattle.wlan.specs.declared.Interface.{Interface}
 use Rattle.wlan.specs.declared.SdpcmPacket.{SdpcmPacket}
-use Rattle.wlan.specs.declared.Received.{Received}
 use Rattle.wlan.specs.declared.RxPacket.{RxPacket}
 use Rattle.definition.specs.Bus.{Bytes}
+use Rattle.wlan.specs.Results.{Received}
+use Rattle.wlan.specs.declared.RxError.{RxError}
 
 -- 'Header: size le 0..1, its complement 2..3, sequence 4, channel in the low 4 bits of 5, next length 6, header length 7,
 -- flow 8, credit 9, zeros 10..11.'
@@ -90,14 +91,14 @@ data_of v size h =
 
 -- 'Channel 1: AsyncEvent at h; h > size is refused 10.'
 unfoldable pub event_at : ℕ → ℕ → Received
-event_at size h = pick (ltb size h) Received.HeaderBeyond (Received.Packet (SdpcmPacket.AsyncEvent h (size - h)))
+event_at size h = pick (ltb size h) (Err RxError.HeaderBeyond) (Ok (SdpcmPacket.AsyncEvent h (size - h)))
 
 -- 'Other channels: None.' v: the declared bytes
 unfoldable pub payload_of : Bytes → ℕ → ℕ → ℕ → ℕ → Received
 payload_of v size channel h id =
-    pick (eqb channel 0) (Received.Packet (control_of v size h id))
+    pick (eqb channel 0) (Ok (control_of v size h id))
     (pick (eqb channel 1) (event_at size h)
-    (pick (eqb channel 2) (Received.Packet (data_of v size h)) (Received.Packet SdpcmPacket.None)))
+    (pick (eqb channel 2) (Ok (data_of v size h)) (Ok SdpcmPacket.None)))
 
 -- `sdpcm_process_rx_packet`. 'The received count is not consulted.'
 unfoldable pub process_rx : ℕ → Bytes → Sdpcm → RxPacket
@@ -107,4 +108,4 @@ process_rx came b s =
       sdpcm = accepted b s;
       received = payload_of (take (size_in b) b) (size_in b) (channel_in b) (header_length_in b) s.requested_ioctl_id;
     })
-    (record { sdpcm = s; received = Received.Packet SdpcmPacket.None })
+    (record { sdpcm = s; received = Ok SdpcmPacket.None })

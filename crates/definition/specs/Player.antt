@@ -1,12 +1,11 @@
 -- The player's input and output, over words. Input is read to its end; one to three bytes left over count as cut short.
-use Rattle.std.specs.Prelude.{ℕ, zero, suc, ◌+◌, ◌-◌, Bool, true, false, ◌&&◌, not, List, [], ◌∷◌, ltb, leb, eqb, length, take, drop, get_or, replicate}
+use Rattle.std.specs.Prelude.{ℕ, zero, suc, ◌+◌, ◌-◌, Bool, true, false, ◌&&◌, not, List, [], ◌∷◌, ltb, leb, eqb, length, take, drop, get_or, replicate, Err}
 use Rattle.slices.specs.Pick.{pick}
 use Rattle.slices.specs.Le.{le32_at, words_for, bytes_of}
 use Rattle.wlan.specs.Outcome.{refusal_of, value_of}
 use Rattle.wlan.specs.State.{fresh}
 use Rattle.wlan.specs.declared.WifiState.{WifiState}
 use Rattle.wlan.specs.declared.DriverError.{DriverError}
-use Rattle.wlan.specs.declared.Outcome.{Outcome}
 use Rattle.wlan.specs.declared.Refusal.{Refusal}
 use Rattle.wlan.specs.declared.ScanRecord.{ScanRecord}
 use Rattle.wlan.specs.declared.ScanList.{ScanList}
@@ -130,7 +129,7 @@ empty_log = replicate 8192 0
 unfoldable pub played_call : World → List ℕ → List ℕ → Bytes → Arguments → End
 played_call w recording log out (call_with c) = called c w recording log out
 played_call w recording log out bad_arguments =
-    shown log out (finished (Outcome.Refused (Refusal.Driver DriverError.InvalidArg)) [] w)
+    shown log out (finished (Err (Refusal.Driver DriverError.InvalidArg)) [] w)
 
 abbrev empty_record : ScanRecord
 empty_record = record { ssid = replicate 32 0; bssid = replicate 6 0; ssid_len = 0; channel = 0; rssi = lib.IntN.pos 0 }

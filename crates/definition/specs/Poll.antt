@@ -1,13 +1,10 @@
 -- `poll`, and the turns of the loops.
-use Rattle.std.specs.Prelude.{ℕ, ◌+◌, ◌-◌, ◌%◌, Bool, true, false, List, [], ltb, leb}
+use Rattle.std.specs.Prelude.{ℕ, ◌+◌, ◌-◌, ◌%◌, Bool, true, false, List, [], ltb, leb, Option, Some, None}
 use Rattle.slices.specs.Pick.{pick}
 use Rattle.wlan.specs.State.{with_link, with_pending, set_failure, set_frame}
 use Rattle.wlan.specs.declared.WifiState.{WifiState}
-use Rattle.wlan.specs.declared.ConnectFailure.{ConnectFailure}
-use Rattle.wlan.specs.declared.StartedTick.{StartedTick}
 use Rattle.wlan.specs.declared.Success.{Success}
 use Rattle.wlan.specs.declared.WlanPollResult.{WlanPollResult}
-use Rattle.wlan.specs.declared.PendingRx.{PendingRx}
 use Rattle.wlan.specs.declared.SdpcmPacket.{SdpcmPacket}
 use Rattle.wlan.specs.declared.State.{State}
 use Rattle.definition.specs.Bus.{Bytes, Op, Ans}
@@ -16,6 +13,7 @@ use Rattle.definition.specs.Event.{handled, released}
 use Rattle.definition.specs.Device.{poll_first, poll_by}
 use Rattle.definition.specs.Send.{elapsed, response_of, storing, stall_turn}
 use Rattle.definition.specs.Ioctl.{in_time}
+use Rattle.wlan.specs.declared.WifiConnectFailure.{WifiConnectFailure}
 
 -- what a call that was not refused gives: its success, and the bytes for its output
 pub record Result : Type 0 where
@@ -28,7 +26,7 @@ giving x w = ret (record { success = x; output = [] }) w
 -- ---- `poll`
 
 abbrev pub holding : ℕ → ℕ → World → World
-holding offset len w = with_state w (with_pending w.st (set_frame w.st.pending (PendingRx.Some (record { offset = offset; len = len }))))
+holding offset len w = with_state w (with_pending w.st (set_frame w.st.pending (Some (record { offset = offset; len = len }))))
 
 -- '`poll` drops a frame below 14 bytes'; it goes on until None or a frame
 unfoldable pub poll_turn : SdpcmPacket → M (Turn Bool)
@@ -42,20 +40,20 @@ unfoldable pub timed_out : ℕ → ℕ → World → World
 timed_out started tick w = pick (leb 1000 (elapsed started tick)) (with_state w (with_link w.st (released w.st.link))) w
 
 -- `poll_disconnect_timeout`
-unfoldable pub disconnect_timeout : WifiState → StartedTick → M (Unit {0})
+unfoldable pub disconnect_timeout : WifiState → Option ℕ → M (Unit {0})
 disconnect_timeout WifiState.Down t w = ret tt w
 disconnect_timeout WifiState.Connecting t w = ret tt w
 disconnect_timeout WifiState.Connected t w = ret tt w
-disconnect_timeout WifiState.Disconnecting StartedTick.None w = ret tt w
-disconnect_timeout WifiState.Disconnecting (StartedTick.Some t) w = (operate Op.read_tick >>= λ n v. ret tt (timed_out t n v)) w
+disconnect_timeout WifiState.Disconnecting None w = ret tt w
+disconnect_timeout WifiState.Disconnecting (Some t) w = (operate Op.read_tick >>= λ n v. ret tt (timed_out t n v)) w
 
 abbrev pub unfailed : World → World
-unfailed w = with_state w (with_link w.st (set_failure w.st.link ConnectFailure.None))
+unfailed w = with_state w (with_link w.st (set_failure w.st.link None))
 
 -- a failure is reported once, and in Down only
-unfoldable pub failure_report : WifiState → ConnectFailure → M Result
-failure_report WifiState.Down ConnectFailure.None w = giving (Success.Polled WlanPollResult.None) w
-failure_report WifiState.Down (ConnectFailure.Some f) w = giving (Success.Polled (WlanPollResult.ConnectFailed f)) (unfailed w)
+unfoldable pub failure_report : WifiState → Option WifiConnectFailure → M Result
+failure_report WifiState.Down None w = giving (Success.Polled WlanPollResult.None) w
+failure_report WifiState.Down (Some f) w = giving (Success.Polled (WlanPollResult.ConnectFailed f)) (unfailed w)
 failure_report WifiState.Connecting f w = giving (Success.Polled WlanPollResult.None) w
 failure_report WifiState.Connected f w = giving (Success.Polled WlanPollResult.None) w
 failure_report WifiState.Disconnecting f w = giving (Success.Polled WlanPollResult.None) w

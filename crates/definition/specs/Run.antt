@@ -1,9 +1,8 @@
 -- A tree run on a recording, its operations logged. 'For a wish 12, then 8, then 9 or 7', 13 before all.
-use Rattle.std.specs.Prelude.{ℕ, ◌+◌, ◌-◌, Bool, true, false, List, [], ◌∷◌, ◌++◌, leb, eqb, length}
+use Rattle.std.specs.Prelude.{ℕ, ◌+◌, ◌-◌, Bool, true, false, List, [], ◌∷◌, ◌++◌, leb, eqb, length, Ok, Err}
 use Rattle.slices.specs.Pick.{pick}
 use Rattle.slices.specs.Over.{over}
 use Rattle.wlan.specs.declared.DriverError.{DriverError}
-use Rattle.wlan.specs.declared.Outcome.{Outcome}
 use Rattle.wlan.specs.declared.Refusal.{Refusal}
 use Rattle.wlan.specs.declared.ScanList.{ScanList}
 use Rattle.wlan.specs.declared.State.{State}
@@ -11,6 +10,7 @@ use Rattle.definition.specs.Bus.{Bytes, Op, words_of, log_of, Answer, answers, A
 use Rattle.definition.specs.Prog.{World, Note, Fin, Loop, Back, Prog, ret, stop, ask, say, loop, note, bind, attempt, turned}
 use Rattle.definition.specs.Poll.{Result, first, body}
 use Rattle.definition.specs.Calls.{Call, call}
+use Rattle.wlan.specs.Results.{Outcome}
 
 -- ---- up to the first operation that takes an answer
 
@@ -70,7 +70,7 @@ finished o b w = record { outcome = o; output = b; world = w; ops = []; notes = 
 
 -- 'After 8, 9, 12 and 13 state and buffer are as at entry': e is the world at entry
 abbrev pub rolled_back : Refusal → World → Run
-rolled_back r e = finished (Outcome.Refused r) [] e
+rolled_back r e = finished (Err r) [] e
 
 abbrev pub afterwards : Settled → Run → Run
 afterwards s r =
@@ -83,14 +83,14 @@ answered e go k wrong = rolled_back Refusal.WrongAnswer e
 
 -- 8: no answer is left
 abbrev pub unanswered : World → Rest → Run
-unanswered e (ended r w) = finished (Outcome.Ok r.success) r.output w
-unanswered e (refused x w) = finished (Outcome.Refused (Refusal.Driver x)) [] w
+unanswered e (ended r w) = finished (Ok r.success) r.output w
+unanswered e (refused x w) = finished (Err (Refusal.Driver x)) [] w
 unanswered e (paused room q k) = rolled_back Refusal.Unrecorded e
 unanswered e full = rolled_back Refusal.LogFull e
 
 abbrev pub resumed : World → Answer → (ℕ → Prog Result → Run) → Rest → Run
-resumed e a go (ended r w) = finished (Outcome.Ok r.success) r.output w
-resumed e a go (refused x w) = finished (Outcome.Refused (Refusal.Driver x)) [] w
+resumed e a go (ended r w) = finished (Ok r.success) r.output w
+resumed e a go (refused x w) = finished (Err (Refusal.Driver x)) [] w
 resumed e a go (paused room q k) = answered e (go room) k (taken_by q a)
 resumed e a go full = rolled_back Refusal.LogFull e
 

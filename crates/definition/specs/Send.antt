@@ -1,5 +1,5 @@
 -- `sdpcm_send_common` and `write_bytes`.
-use Rattle.std.specs.Prelude.{ℕ, zero, suc, ◌+◌, ◌-◌, ◌%◌, Bool, true, false, ◌&&◌, not, ltb, leb, eqb, take}
+use Rattle.std.specs.Prelude.{ℕ, zero, suc, ◌+◌, ◌-◌, ◌%◌, Bool, true, false, ◌&&◌, not, ltb, leb, eqb, take, Some}
 use Rattle.std.specs.Int.Bits.{bit_and}
 use Rattle.slices.specs.Pick.{pick}
 use Rattle.slices.specs.Over.{over}
@@ -7,7 +7,6 @@ use Rattle.slices.specs.Le.{round4}
 use Rattle.wlan.specs.State.{with_sdpcm, with_pending, set_seq, set_reply}
 use Rattle.wlan.specs.declared.DriverError.{DriverError}
 use Rattle.wlan.specs.declared.PendingIoctlResp.{PendingIoctlResp}
-use Rattle.wlan.specs.declared.PendingResp.{PendingResp}
 use Rattle.wlan.specs.declared.SdpcmPacket.{SdpcmPacket}
 use Rattle.wlan.specs.declared.State.{State}
 use Rattle.definition.specs.Bus.{Op, Place}
@@ -33,7 +32,7 @@ abbrev pub response_of : ℕ → ℕ → lib.IntN.ℤ → PendingIoctlResp
 response_of offset len status = record { buf = record { offset = offset; len = len }; status = status }
 
 abbrev pub storing : PendingIoctlResp → World → World
-storing r w = with_state w (with_pending w.st (set_reply w.st.pending (PendingResp.Some r)))
+storing r w = with_state w (with_pending w.st (set_reply w.st.pending (Some r)))
 
 -- 'elapsed above 1,000,000: refusal 2', 'then waits 100 µs'
 unfoldable pub still_stalled : ℕ → ℕ → M (Turn (Unit {0}))

@@ -10,7 +10,6 @@ use Rattle.slices.specs.Pick.{pick}
 use Rattle.wlan.specs.State.{with_sdpcm, set_mark}
 use Rattle.wlan.specs.declared.BusOp.{BusOp}
 use Rattle.wlan.specs.declared.AsyncEvent.{AsyncEvent}
-use Rattle.wlan.specs.declared.Received.{Received}
 use Rattle.wlan.specs.declared.Sdpcm.{Sdpcm}
 use Rattle.wlan.specs.declared.SdpcmPacket.{SdpcmPacket}
 use Rattle.definition.specs.Bus.{Bytes, Op, Ans, fault, val, nowhere}
@@ -25,6 +24,9 @@ use Rattle.device.specs.declared.PollNext.{PollNext}
 use Rattle.device.specs.declared.PollStep.{PollStep}
 use Rattle.device.specs.Poll.{poll_op, step, poll_start, acknowledged, interrupt_step, status_step, read_step, waited, got_step, received_step, arrived_step, valued_step, poll_answer}
 use Rattle.device.specs.Meaning.{secretly, op_in, asking, told, landing, InRange, arrival_of, received_event, packet_event, arrival_at, Kp, poll_tree, poll_shown, landed_world, poll_step_at, Tells}
+use Rattle.std.specs.Prelude.{Ok, Err}
+use Rattle.wlan.specs.Results.{Received}
+use Rattle.wlan.specs.declared.RxError.{RxError}
 
 -- 0x20 is tested, and the status read
 acknowledged-is : (i : ℕ) (w : World) → unroll (pick (eqb (bit_and i 0x20) 0) (ret SdpcmPacket.None w) (status_reads 1000 w)) ≡ poll_shown (acknowledged w.st.sdpcm i) w
@@ -73,8 +75,8 @@ read_is left s w = by (eqb s 0xffffffff)
 
 received_is : (s : Sdpcm) (r : Received) (w : World) → unroll (packet_in r (with_state w (with_sdpcm w.st s))) ≡ poll_shown (got_step s r) w
 unfolding unroll packet_in got_step poll_tree
-received_is s (Received.Packet p) w = refl
-received_is s Received.HeaderBeyond w = refl
+received_is s (Ok p) w = refl
+received_is s (Err RxError.HeaderBeyond) w = refl
 
 got-is : (n : ℕ) (w : World) → unroll (got_packet n w) ≡ poll_shown (arrived_step w.st.sdpcm (arrival_of n w.buf w.st.sdpcm)) w
 unfolding unroll got_packet read_in arrived_step arrival_of poll_tree
@@ -120,11 +122,11 @@ start_is w = by (had_packet w.st)
 
 tells-got : (s : Sdpcm) (r : Received) (b : Bytes) → Tells b (received_event r b) (got_step s r).next
 unfolding Tells received_event packet_event got_step
-tells-got s (Received.Packet SdpcmPacket.None) b = tt
-tells-got s (Received.Packet (SdpcmPacket.Control o l t)) b = tt
-tells-got s (Received.Packet (SdpcmPacket.AsyncEvent o l)) b = refl
-tells-got s (Received.Packet (SdpcmPacket.Data o l i)) b = tt
-tells-got s Received.HeaderBeyond b = tt
+tells-got s (Ok SdpcmPacket.None) b = tt
+tells-got s (Ok (SdpcmPacket.Control o l t)) b = tt
+tells-got s (Ok (SdpcmPacket.AsyncEvent o l)) b = refl
+tells-got s (Ok (SdpcmPacket.Data o l i)) b = tt
+tells-got s (Err RxError.HeaderBeyond) b = tt
 
 -- a test whose sides tell
 tells-pick : (c : Bool) (b : Bytes) (e : AsyncEvent) (s t : PollStep) → Tells b e s.next → Tells b e t.next → Tells b e (pick c s t).next

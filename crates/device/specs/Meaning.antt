@@ -1,12 +1,10 @@
 -- What passes by value between the control and the work buffer, and the tree that each point of a poll stands for.
-use Rattle.std.specs.Prelude.{◌≡◌, ℕ, ◌<◌, Bool, true, false, ◌&&◌, List, [], eqb, drop}
+use Rattle.std.specs.Prelude.{◌≡◌, ℕ, ◌<◌, Bool, true, false, ◌&&◌, List, [], eqb, drop, Ok, Err}
 use Rattle.std.specs.Int.Bits.{bit_and}
 use Rattle.slices.specs.Pick.{pick}
 use Rattle.wlan.specs.State.{with_sdpcm, set_mark}
-use Rattle.wlan.specs.declared.BusAnswer.{BusAnswer}
 use Rattle.wlan.specs.declared.BusOp.{BusOp}
 use Rattle.wlan.specs.declared.AsyncEvent.{AsyncEvent}
-use Rattle.wlan.specs.declared.Received.{Received}
 use Rattle.wlan.specs.declared.Sdpcm.{Sdpcm}
 use Rattle.wlan.specs.declared.SdpcmPacket.{SdpcmPacket}
 use Rattle.definition.specs.Bus.{Bytes, Place, nowhere, Op, Ans, fault, val}
@@ -20,6 +18,9 @@ use Rattle.device.specs.declared.Arrival.{Arrival}
 use Rattle.device.specs.declared.PollNext.{PollNext}
 use Rattle.device.specs.declared.PollStep.{PollStep}
 use Rattle.device.specs.Poll.{poll_op, poll_answer}
+use Rattle.wlan.specs.Results.{BusAnswer, fault_at}
+use Rattle.wlan.specs.Results.{Received}
+use Rattle.wlan.specs.declared.RxError.{RxError}
 
 -- ---- an operation
 
@@ -54,8 +55,8 @@ asking (Op.wait ns) k = say (Op.wait ns) (k (val 0 []))
 
 -- what the control is told
 unfoldable pub told : Ans → BusAnswer
-told (fault p) = BusAnswer.Fault p
-told (val v T) = BusAnswer.Value v
+told (fault p) = Err (fault_at p)
+told (val v T) = Ok v
 
 -- the work buffer after the answer to an operation
 unfoldable pub landing : BusOp → Ans → Bytes → Bytes
@@ -95,8 +96,8 @@ packet_event (SdpcmPacket.AsyncEvent offset len) b = event_of (drop offset b) le
 packet_event (SdpcmPacket.Data offset len interface) b = event_of [] 0
 
 unfoldable pub received_event : Received → Bytes → AsyncEvent
-received_event (Received.Packet p) b = packet_event p b
-received_event Received.HeaderBeyond b = event_of [] 0
+received_event (Ok p) b = packet_event p b
+received_event (Err RxError.HeaderBeyond) b = event_of [] 0
 
 -- b: the work buffer after the read of n bytes
 unfoldable pub arrival_of : ℕ → Bytes → Sdpcm → Arrival

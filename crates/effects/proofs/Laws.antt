@@ -11,32 +11,32 @@ use borrow.Author.Tests.{ltb-true, eqb-true, eqb-false}
 use Rattle.slices.specs.Pick.{pick}
 use Rattle.slices.specs.Le.{words_for, bytes_of}
 use Rattle.wlan.specs.declared.BusOp.{BusOp}
-use Rattle.wlan.specs.declared.BusAnswer.{BusAnswer}
 use Rattle.definition.specs.Bus as def
-use Rattle.answers.specs.declared.Taken.{Taken}
 use Rattle.bus.specs.Op.{op_of}
 use Rattle.answers.specs.Taken.{taken_of}
 use Rattle.answers.proofs.Answers.{size_in, next_of, size-pos, taken-fault, taken-value, taken-packet}
 use Rattle.device.specs.Meaning.{InRange}
 use Rattle.effects.specs.Answer.{answer_in, is_wait}
+use Rattle.std.specs.Prelude.{Ok, Err}
+use Rattle.wlan.specs.Results.{BusAnswer}
 
 -- ---- where it lies
 
-whole : (q : def.Op) (ws : List ℕ) (x : BusAnswer) → Taken.Got x ≡ taken_of q ws → size_in ws ≤ length ws
-whole q ws (BusAnswer.Fault p) h = (taken-fault q ws p (sym h)).whole
-whole q ws (BusAnswer.Value v) h = (taken-value q ws v (sym h)).whole
+whole : (q : def.Op) (ws : List ℕ) (x : BusAnswer) → Ok x ≡ taken_of q ws → size_in ws ≤ length ws
+whole q ws (Err f) h = (taken-fault q ws f.place (sym h)).whole
+whole q ws (Ok v) h = (taken-value q ws v (sym h)).whole
 
-pub got-inside : (q : def.Op) (rec : List ℕ) (pos : ℕ) (x : BusAnswer) → Taken.Got x ≡ taken_of q (drop pos rec) → pos < length rec
+pub got-inside : (q : def.Op) (rec : List ℕ) (pos : ℕ) (x : BusAnswer) → Ok x ≡ taken_of q (drop pos rec) → pos < length rec
 got-inside q rec pos x h = omega (arith, whole q (drop pos rec) x h, size-pos (get_or (drop pos rec) 0 0), length-drop pos rec)
 
 -- ---- a packet
 
-pub packet-fits : (n : ℕ) (rec : List ℕ) (pos : ℕ) (x : BusAnswer) (v : ℕ) → x ≡ BusAnswer.Value v → Taken.Got x ≡ taken_of (def.Op.read_packet n) (drop pos rec) → pos + (2 + words_for n) ≤ length rec
+pub packet-fits : (n : ℕ) (rec : List ℕ) (pos : ℕ) (x : BusAnswer) (v : ℕ) → x ≡ Ok v → Ok x ≡ taken_of (def.Op.read_packet n) (drop pos rec) → pos + (2 + words_for n) ≤ length rec
 packet-fits n rec pos x v e h =
     let ws = drop pos rec in
     omega (arith, whole (def.Op.read_packet n) ws x h, (taken-packet n ws v (sym (rw e at h))).size, length-drop pos rec)
 
-pub packet-bytes : (n : ℕ) (rec : List ℕ) (pos : ℕ) (x : BusAnswer) (v : ℕ) → x ≡ BusAnswer.Value v → Taken.Got x ≡ taken_of (def.Op.read_packet n) (drop pos rec) → bytes_of (take (1 + words_for n) (drop (pos + 1) rec)) ≡ (next_of (drop pos rec)).bytes
+pub packet-bytes : (n : ℕ) (rec : List ℕ) (pos : ℕ) (x : BusAnswer) (v : ℕ) → x ≡ Ok v → Ok x ≡ taken_of (def.Op.read_packet n) (drop pos rec) → bytes_of (take (1 + words_for n) (drop (pos + 1) rec)) ≡ (next_of (drop pos rec)).bytes
 packet-bytes n rec pos x v e h = sym ((taken-packet n (drop pos rec) v (sym (rw e at h))).bytes ∙ rw drop-drop)
 
 -- ---- how wide a value is
@@ -96,7 +96,7 @@ valued q a v c h =
     let e = by_tests (eqb a.kind 7) (eqb (def.wants q) 4 || eqb (def.wants q) 5) (eqb a.kind (def.wants q)) (def.asked q a.value) a.value v a.bytes c h in
     (eqb-true _ _ e.0, e.1)
 
-next-valued : (q : def.Op) (ws : List ℕ) (v : ℕ) → Taken.Got (BusAnswer.Value v) ≡ taken_of q ws → ((next_of ws).kind ≡ def.wants q) × ((next_of ws).value ≡ v)
+next-valued : (q : def.Op) (ws : List ℕ) (v : ℕ) → Ok (Ok v) ≡ taken_of q ws → ((next_of ws).kind ≡ def.wants q) × ((next_of ws).value ≡ v)
 next-valued q ws v h = valued q (next_of ws) v (next_of ws).bytes (taken-value q ws v (sym h)).taken
 
 get_or-taken : (n : ℕ) (ws : List ℕ) (i : ℕ) → get_or (take n ws) i 0 ≤ get_or ws i 0
@@ -105,22 +105,22 @@ get_or-taken (suc n) [] i = omega arith
 get_or-taken (suc n) (w ∷ ws) zero = omega arith
 get_or-taken (suc n) (w ∷ ws) (suc i) = get_or-taken n ws i
 
-interrupt-wide : (ws : List ℕ) (v : ℕ) → Taken.Got (BusAnswer.Value v) ≡ taken_of def.Op.read_interrupt ws → v < 65536
+interrupt-wide : (ws : List ℕ) (v : ℕ) → Ok (Ok v) ≡ taken_of def.Op.read_interrupt ws → v < 65536
 interrupt-wide ws v h =
     let e = next-valued def.Op.read_interrupt ws v h in
     omega (arith, (wide (take (size_in ws) ws)).0 e.0, e.1)
 
-status-word : (ws : List ℕ) (v : ℕ) → Taken.Got (BusAnswer.Value v) ≡ taken_of def.Op.read_status ws → v ≤ get_or ws 1 0
+status-word : (ws : List ℕ) (v : ℕ) → Ok (Ok v) ≡ taken_of def.Op.read_status ws → v ≤ get_or ws 1 0
 status-word ws v h =
     let e = next-valued def.Op.read_status ws v h in
     omega (arith, (wide (take (size_in ws) ws)).1 e.0, e.1, get_or-taken (size_in ws) ws 1)
 
-ranged : (op : BusOp) (x : BusAnswer) (ws : List ℕ) → is_wait op ≡ false → get_or ws 1 0 < 4294967296 → Taken.Got x ≡ taken_of (op_of op []) ws → InRange op (answer_in x ws)
+ranged : (op : BusOp) (x : BusAnswer) (ws : List ℕ) → is_wait op ≡ false → get_or ws 1 0 < 4294967296 → Ok x ≡ taken_of (op_of op []) ws → InRange op (answer_in x ws)
 unfolding InRange answer_in is_wait
-ranged BusOp.ReadInterrupt (BusAnswer.Fault p) ws n s h = tt
-ranged BusOp.ReadInterrupt (BusAnswer.Value v) ws n s h = interrupt-wide ws v h
-ranged BusOp.ReadStatus (BusAnswer.Fault p) ws n s h = tt
-ranged BusOp.ReadStatus (BusAnswer.Value v) ws n s h = omega (arith, status-word ws v h)
+ranged BusOp.ReadInterrupt (Err f) ws n s h = tt
+ranged BusOp.ReadInterrupt (Ok v) ws n s h = interrupt-wide ws v h
+ranged BusOp.ReadStatus (Err f) ws n s h = tt
+ranged BusOp.ReadStatus (Ok v) ws n s h = omega (arith, status-word ws v h)
 ranged (BusOp.ReadPacket k) x ws n s h = tt
 ranged BusOp.ReadClock x ws n s h = tt
 ranged BusOp.ReadTick x ws n s h = tt
@@ -129,5 +129,5 @@ ranged (BusOp.WriteInterrupt v) x ws n s h = tt
 ranged BusOp.FrameControl x ws n s h = tt
 ranged (BusOp.Wait ns) x ws n s h = absurd (let z : ◌≡◌ {A = ℕ} 0 1 = cc in omega arith)
 
-pub in-range : (op : BusOp) (x : BusAnswer) (rec : List ℕ) (pos : ℕ) → is_wait op ≡ false → get_or rec (pos + 1) 0 < 4294967296 → Taken.Got x ≡ taken_of (op_of op []) (drop pos rec) → InRange op (answer_in x (drop pos rec))
+pub in-range : (op : BusOp) (x : BusAnswer) (rec : List ℕ) (pos : ℕ) → is_wait op ≡ false → get_or rec (pos + 1) 0 < 4294967296 → Ok x ≡ taken_of (op_of op []) (drop pos rec) → InRange op (answer_in x (drop pos rec))
 in-range op x rec pos n s h = ranged op x (drop pos rec) n (omega (arith, get_or-drop pos rec 1 0)) h

@@ -1,14 +1,14 @@
 -- A recorded answer, in the definition's terms.
-use Rattle.std.specs.Prelude.{ℕ, Bool, true, false, List}
-use Rattle.wlan.specs.declared.BusAnswer.{BusAnswer}
+use Rattle.std.specs.Prelude.{ℕ, Bool, true, false, List, Ok, Err}
 use Rattle.wlan.specs.declared.BusOp.{BusOp}
 use Rattle.definition.specs.Bus.{Ans, fault, val}
 use Rattle.answers.proofs.Answers.{next_of}
+use Rattle.wlan.specs.Results.{BusAnswer}
 
 -- ws: the recording's words that begin with it
 unfoldable pub answer_in : BusAnswer → List ℕ → Ans
-answer_in (BusAnswer.Fault p) ws = fault p
-answer_in (BusAnswer.Value v) ws = val v (next_of ws).bytes
+answer_in (Err f) ws = fault f.place
+answer_in (Ok v) ws = val v (next_of ws).bytes
 
 -- an operation that takes no answer
 unfoldable pub is_wait : BusOp → Bool

@@ -1,7 +1,6 @@
 // What an answer leaves in the work buffer.
-ghost use Rattle.std.specs.Prelude.{◌≡◌, false, [], drop};
+ghost use Rattle.std.specs.Prelude.{◌≡◌, false, [], drop, Ok};
 ghost use Rattle.definition.specs.Bus as def;
-ghost use Rattle.answers.specs.declared.Taken as taken;
 ghost use Rattle.bus.specs.Op.{op_of};
 ghost use Rattle.answers.specs.Taken.{taken_of};
 ghost use Rattle.device.specs.Meaning.{landing, InRange};
@@ -11,12 +10,12 @@ use bus::read::{faulted_read, read_bytes};
 use wlan::{BusAnswer, BusOp};
 
 fn land_packet(buf: &mut [u8], n: u16, x: BusAnswer, rec: &[u32], pos: usize)
-    requires { taken.Taken.Got x ≡ taken_of (def.Op.read_packet n) (drop pos rec.now) }
+    requires { Ok x ≡ taken_of (def.Op.read_packet n) (drop pos rec.now) }
     ensures { buf.new ≡ landing (BusOp.ReadPacket n) (answer_in x (drop pos rec.now)) buf.old }
 {
     match x {
-        BusAnswer::Fault(_) => faulted_read(buf, n),
-        BusAnswer::Value(_) => {
+        Err(_) => faulted_read(buf, n),
+        Ok(_) => {
             let words = 1 + (n as usize + 3) / 4;
             read_bytes(buf, &rec[pos + 1..pos + 1 + words], n as usize);
         }
@@ -25,7 +24,7 @@ fn land_packet(buf: &mut [u8], n: u16, x: BusAnswer, rec: &[u32], pos: usize)
 
 // x is what the recording's words from pos on answer.
 pub fn land(buf: &mut [u8], op: BusOp, x: BusAnswer, rec: &[u32], pos: usize)
-    requires { taken.Taken.Got x ≡ taken_of (op_of op []) (drop pos rec.now) }
+    requires { Ok x ≡ taken_of (op_of op []) (drop pos rec.now) }
     ensures { buf.new ≡ landing op (answer_in x (drop pos rec.now)) buf.old }
 {
     match op {
@@ -44,7 +43,7 @@ pub fn land(buf: &mut [u8], op: BusOp, x: BusAnswer, rec: &[u32], pos: usize)
 // A value is as wide as what was read: a recorded status is a word. By the recording's rule a fault answers a wait too.
 pub fn in_range(op: BusOp, x: BusAnswer, rec: &[u32], pos: usize)
     requires op_value { is_wait op ≡ false }
-    requires x_value { taken.Taken.Got x ≡ taken_of (op_of op []) (drop pos rec.now) }
+    requires x_value { Ok x ≡ taken_of (op_of op []) (drop pos rec.now) }
     ensures { InRange op (answer_in x (drop pos rec.now)) }
 {
     let _word = words::word_at(rec, pos + 1);

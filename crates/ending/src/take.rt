@@ -9,7 +9,7 @@ ghost use Rattle.ending.specs.Take as to;
 
 use going::{CallEnd, StateEnd};
 use wlan::setters::{set_frame, with_pending};
-use wlan::{DriverError, Outcome, PendingBuf, PendingRx, Refusal, ScanList, State, Success};
+use wlan::{DriverError, Outcome, PendingBuf, Refusal, ScanList, State, Success};
 
 pub fn with_list(e: StateEnd, list: ScanList) -> CallEnd
     ensures { result ≡ with_list e list }
@@ -37,14 +37,14 @@ fn ended(o: Outcome, st: State) -> StateEnd
 fn driver_error(e: DriverError, st: State) -> StateEnd
     ensures { result ≡ to.driver_error e st }
 {
-    ended(Outcome::Refused(Refusal::Driver(e)), st)
+    ended(Err(Refusal::Driver(e)), st)
 }
 
 fn frameless(st: State) -> State
     ensures { result ≡ to.frameless_state st }
 {
     let p = st.pending;
-    with_pending(st, set_frame(p, PendingRx::None))
+    with_pending(st, set_frame(p, None))
 }
 
 // A frame that waits is given out, or dropped.
@@ -61,19 +61,19 @@ fn take_frame(f: PendingBuf, st: State, buf: &[u8], out: &mut [u8]) -> StateEnd
         return driver_error(DriverError::PastBuffer, s);
     }
     slices::copy_over(out, 0, &buf[offset..offset + n]);
-    ended(Outcome::Ok(Success::Taken(f.len)), s)
+    ended(Ok(Success::Taken(f.len)), s)
 }
 
 pub fn take(st: State, buf: &[u8], out: &mut [u8]) -> StateEnd
     ensures { (rec log : List ℕ) (l : list.ScanList) → end_of (with_list result l) log buf.now out.new ≡ called (Call.get_rx_buf (length out.old)) (world st buf.now l) rec log out.old }
 {
     if buf.len() != 2048 {
-        return ended(Outcome::Refused(Refusal::BufferLength), st);
+        return ended(Err(Refusal::BufferLength), st);
     }
     let p = st.pending;
     let rx = p.rx;
     match rx {
-        PendingRx::None => driver_error(DriverError::WouldBlock, st),
-        PendingRx::Some(f) => take_frame(f, st, buf, out),
+        None => driver_error(DriverError::WouldBlock, st),
+        Some(f) => take_frame(f, st, buf, out),
     }
 }

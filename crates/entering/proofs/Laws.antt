@@ -23,6 +23,11 @@ use Rattle.entry.specs.Entry.{shown, handed, session_at}
 use Rattle.entry.proofs.Laws.{handed-is}
 use Rattle.entering.specs.Entering as to
 
+-- bytes of another length are no session's
+pub other-session : (b : List ℕ) → (length b ≡ 1393 → ⊥) → is_session b ≡ false
+unfolding is_session
+other-session b h = rw (ne_eqb (length b) 1393 h)
+
 -- the session's bytes hold what e says
 at-end : (e : End) (session : List ℕ) (buf : Bytes) → turning.world_in session buf ≡ world e.st e.buf e.list → session_in session ≡ session_at e
 at-end e session buf h = ap (λ (w : World). record { st = w.st; list = w.list }) h

@@ -1,7 +1,6 @@
 -- What a C entry in place hands back.
-use Rattle.std.specs.Prelude.{ℕ, List, eqb}
+use Rattle.std.specs.Prelude.{ℕ, List, eqb, Err}
 use Rattle.slices.specs.Pick.{pick}
-use Rattle.wlan.specs.declared.Outcome.{Outcome}
 use Rattle.wlan.specs.declared.Refusal.{Refusal}
 use Rattle.definition.specs.Bus.{Bytes}
 use Rattle.definition.specs.Prog.{World, world}
@@ -14,7 +13,7 @@ use Rattle.entry.specs.Entry.{Handed, shown, handed}
 abbrev pub other_length : World → List ℕ → Bytes → End
 other_length w log out =
     record {
-      outcome = Outcome.Refused Refusal.BufferLength;
+      outcome = Err Refusal.BufferLength;
       st = w.st;
       list = w.list;
       buf = w.buf;

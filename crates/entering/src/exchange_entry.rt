@@ -11,21 +11,20 @@ use crate::{hand, other_length};
 use jobs::ExchangeCall;
 use runs::exchanges::run_exchanges;
 use session_form::is_session;
+use wlan::{SESSION_LEN, SessionBytes, UNDO_LEN, UndoBytes, WORK_BUFFER_LEN, WorkBuffer};
 
 fn exchange_here(
     c: ExchangeCall,
     a: &[u8],
     b: &[u8],
-    session: &mut [u8],
-    undo: &mut [u8],
+    session: &mut SessionBytes,
+    undo: &mut UndoBytes,
     rec: &[u32],
     log: &mut [u32],
-    buf: &mut [u8],
+    buf: &mut WorkBuffer,
     res: &mut [u64],
 ) -> u32
     requires session_value { is_session session.old ≡ true }
-    requires undo_len { length undo.old ≡ 3444 }
-    requires buf_len { length buf.old ≡ 2048 }
     ensures { shown result session.new log.new buf.new [] res.new ≡ handed res.old (called (call_of c a.now b.now) (world_in session.old buf.old) rec.now log.old []) }
 {
     let r = run_exchanges(c, a, b, session, undo, rec, log, buf);
@@ -46,16 +45,19 @@ pub fn exchange_entered(
 ) -> u32
     ensures { shown result session.new log.new buf.new [] res.new ≡ to.entered (call_of c a.now b.now) session.old (length undo.old) rec.now log.old buf.old [] res.old }
 {
-    if is_session(session) {
-        if undo.len() != 3444 {
-            return other_length(res);
-        }
-        if buf.len() != 2048 {
-            return other_length(res);
-        }
-        return exchange_here(c, a, b, session, undo, rec, log, buf, res);
+    let Some(session) = session.as_mut_array::<SESSION_LEN>() else {
+        return 100;
+    };
+    if !is_session(session) {
+        return 100;
     }
-    100
+    let Some(undo) = undo.as_mut_array::<UNDO_LEN>() else {
+        return other_length(res);
+    };
+    let Some(buf) = buf.as_mut_array::<WORK_BUFFER_LEN>() else {
+        return other_length(res);
+    };
+    exchange_here(c, a, b, session, undo, rec, log, buf, res)
 }
 
 // The calls without byte arguments.

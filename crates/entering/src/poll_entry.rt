@@ -10,18 +10,17 @@ ghost use Rattle.entering.specs.Entering as to;
 use crate::{hand, other_length};
 use runs::polling::run_poll;
 use session_form::is_session;
+use wlan::{SESSION_LEN, SessionBytes, UNDO_LEN, UndoBytes, WORK_BUFFER_LEN, WorkBuffer};
 
 fn poll_here(
-    session: &mut [u8],
-    undo: &mut [u8],
+    session: &mut SessionBytes,
+    undo: &mut UndoBytes,
     rec: &[u32],
     log: &mut [u32],
-    buf: &mut [u8],
+    buf: &mut WorkBuffer,
     res: &mut [u64],
 ) -> u32
     requires session_value { is_session session.old ≡ true }
-    requires undo_len { length undo.old ≡ 3444 }
-    requires buf_len { length buf.old ≡ 2048 }
     ensures { shown result session.new log.new buf.new [] res.new ≡ handed res.old (called Call.wifi_poll (world_in session.old buf.old) rec.now log.old []) }
 {
     let r = run_poll(session, undo, rec, log, buf);
@@ -38,14 +37,17 @@ pub fn poll_entered(
 ) -> u32
     ensures { shown result session.new log.new buf.new [] res.new ≡ to.entered Call.wifi_poll session.old (length undo.old) rec.now log.old buf.old [] res.old }
 {
-    if is_session(session) {
-        if undo.len() != 3444 {
-            return other_length(res);
-        }
-        if buf.len() != 2048 {
-            return other_length(res);
-        }
-        return poll_here(session, undo, rec, log, buf, res);
+    let Some(session) = session.as_mut_array::<SESSION_LEN>() else {
+        return 100;
+    };
+    if !is_session(session) {
+        return 100;
     }
-    100
+    let Some(undo) = undo.as_mut_array::<UNDO_LEN>() else {
+        return other_length(res);
+    };
+    let Some(buf) = buf.as_mut_array::<WORK_BUFFER_LEN>() else {
+        return other_length(res);
+    };
+    poll_here(session, undo, rec, log, buf, res)
 }

@@ -6,9 +6,7 @@ use mathlib.Core.List.{List, [], ◌∷◌}
 use native.Mathlib.Omega.{arith}
 use lib.ListN.{length, drop}
 use Rattle.slices.specs.Pick.{pick}
-use Rattle.wlan.specs.declared.BusAnswer.{BusAnswer}
 use Rattle.wlan.specs.declared.DriverError.{DriverError}
-use Rattle.wlan.specs.declared.Outcome.{Outcome}
 use Rattle.wlan.specs.declared.Refusal.{Refusal}
 use Rattle.wlan.specs.declared.State.{State}
 use Rattle.wlan.specs.Outcome.{error_value}
@@ -18,7 +16,6 @@ use Rattle.definition.specs.Run.{End}
 use Rattle.handling.specs.Handle.{list_heard}
 use Rattle.device.specs.declared.Arrival.{Arrival}
 use Rattle.device.specs.Meaning.{told, landing, InRange, arrival_at}
-use Rattle.send.specs.declared.HeaderPut.{HeaderPut}
 use Rattle.send.specs.Meaning.{laid_header}
 use Rattle.control.specs.declared.Before.{Before}
 use Rattle.control.specs.declared.CallNext.{CallNext}
@@ -51,6 +48,9 @@ use Rattle.ioctl_call.specs.IoctlCall as ioctl
 use Rattle.ioctl_call.proofs.Laws.{shown-left}
 use Rattle.exchange_call.specs.declared.CallTurned.{CallTurned}
 use Rattle.exchange_call.specs.ExchangeCall as to
+use Rattle.std.specs.Prelude.{Option, Ok, Err}
+use Rattle.send.specs.declared.Header.{Header}
+use Rattle.wlan.specs.Results.{BusAnswer, fault_at}
 
 -- ---- an operation outside an exchange
 
@@ -73,19 +73,19 @@ module _ (a : Args) (m : Modest a) (q : CallPoint) (y : Ans) (b₀ c : Bytes) (i
 -- ---- a call's end
 
 module _ (a : Args) (e : World) (ws log b : List ℕ) (buf : Bytes) (len : ℕ) where
-  pub gives-ends : (x : Ending) → ending.SuccessFits (success_of x buf) → turning.Ends e (go e ws log len (call_tree a (CallNext.Ended x) (turning.world_in b buf))) (ending.end_by (Outcome.Ok (success_of x buf)) len) log b buf
+  pub gives-ends : (x : Ending) → ending.SuccessFits (success_of x buf) → turning.Ends e (go e ws log len (call_tree a (CallNext.Ended x) (turning.world_in b buf))) (ending.end_by (Ok (success_of x buf)) len) log b buf
   unfolding call_tree
   gives-ends x f = law.returned e _ ws log b buf len refl f
 
-  pub stops : (x : DriverError) → error_value x < 256 → turning.Ends e (go e ws log len (call_tree a (CallNext.Refused x) (turning.world_in b buf))) (ending.end_by (Outcome.Refused (Refusal.Driver x)) len) log b buf
+  pub stops : (x : DriverError) → error_value x < 256 → turning.Ends e (go e ws log len (call_tree a (CallNext.Refused x) (turning.world_in b buf))) (ending.end_by (Err (Refusal.Driver x)) len) log b buf
   unfolding call_tree
   stops x f = law.stopped e x ws log b buf len f
 
 -- ---- a turn
 
 pub planned-on : {a : Args} {g : Stage} {e : World} {x : End} {rec : List ℕ} (n : IoctlNow) {pos len : ℕ} {log b : List ℕ} {buf : Bytes} (c : Bytes) (f : Plan) → ioctl.Answered a g e x rec n pos len log b buf
-    → ((l : Lens) (s : State) (h : Bool) (z : HeaderPut) → exchange_next a.job l g s h (reply.next_of n z) ≡ plan.planned f a.job l s h (plan.before_in (reply.next_of n z)))
-    → ((z : HeaderPut) (c₀ : Bytes) → buf ≡ laid_header (reply.header_in (reply.next_of n z)) c₀ → c ≡ laid_before (plan.before_in (reply.next_of n z)) c₀)
+    → ((l : Lens) (s : State) (h : Bool) (z : Option Header) → exchange_next a.job l g s h (reply.next_of n z) ≡ plan.planned f a.job l s h (plan.before_in (reply.next_of n z)))
+    → ((z : Option Header) (c₀ : Bytes) → buf ≡ laid_header (reply.header_in (reply.next_of n z)) c₀ → c ≡ laid_before (plan.before_in (reply.next_of n z)) c₀)
     → to.Plans a e x rec f pos len log b c
 planned-on {a} {g} {e} {x} {rec} n {pos} {len} {log} {b} {buf} c f k p q =
     record {
@@ -129,21 +129,21 @@ module _ (x : Args) (m : Modest x) (q : CallPoint) {rec log₀ log : List ℕ} {
   unfolding call_tree
   back-turns end o w h = over-turns x e _ rec log b buf r o w (law.asked-back (call_op q) a k e (secret_at x q) (λ y. Kc x q y (turning.world_in b buf)) b end h)
 
-  value-turns : turning.is_back a.back ≡ false → a.fault ≡ false → (f : Plan) → Onward f → Follows f (BusAnswer.Value a.value) → Ends
+  value-turns : turning.is_back a.back ≡ false → a.fault ≡ false → (f : Plan) → Onward f → Follows f (Ok a.value) → Ends
   unfolding call_tree
   value-turns i l f o h =
       on-turns x e _ rec log b buf r f a.pos a.len o.0 o.1 o.2 o.3
       (law.asked-value (call_op q) a k e (secret_at x q) (λ y. Kc x q y (turning.world_in b buf)) b (λ (z : End). to.Plans x e z rec f a.pos a.len log b buf) (law.not_back a.back i) l
-      (λ y hv j hb. plans x m q y buf buf j hb e rec log a.pos a.len b (BusAnswer.Value a.value) hv f (h _)))
+      (λ y hv j hb. plans x m q y buf buf j hb e rec log a.pos a.len b (Ok a.value) hv f (h _)))
 
-  fault-turns : turning.is_back a.back ≡ false → a.fault ≡ true → (f : Plan) → Onward f → (a.value < 256 → Follows f (BusAnswer.Fault a.value)) → Ends
+  fault-turns : turning.is_back a.back ≡ false → a.fault ≡ true → (f : Plan) → Onward f → (a.value < 256 → Follows f (Err (fault_at a.value))) → Ends
   unfolding call_tree
   fault-turns i l f o h =
       on-turns x e _ rec log b buf r f a.pos a.len o.0 o.1 o.2 o.3
       (law.asked-faulted (call_op q) a k e (secret_at x q) (λ y. Kc x q y (turning.world_in b buf)) b (λ (z : End). to.Plans x e z rec f a.pos a.len log b buf) (law.not_back a.back i) l
-      (λ y hv n j hb. plans x m q y buf buf j hb e rec log a.pos a.len b (BusAnswer.Fault a.value) hv f (h n _)))
+      (λ y hv n j hb. plans x m q y buf buf j hb e rec log a.pos a.len b (Err (fault_at a.value)) hv f (h n _)))
 
-  pub told-turns : turning.is_back a.back ≡ false → (f : Plan) → Onward f → (a.fault ≡ true → a.value < 256 → Follows f (BusAnswer.Fault a.value)) → (a.fault ≡ false → Follows f (BusAnswer.Value a.value)) → Ends
+  pub told-turns : turning.is_back a.back ≡ false → (f : Plan) → Onward f → (a.fault ≡ true → a.value < 256 → Follows f (Err (fault_at a.value))) → (a.fault ≡ false → Follows f (Ok a.value)) → Ends
   told-turns i f o hf hv = by a.fault refl
     where
       by : (l : Bool) → a.fault ≡ l → Ends

@@ -1,9 +1,7 @@
 // A call's exchanges over its recording, on a session's bytes: the loop over the exchanges.
 #![tactic(auto)]
 
-ghost use Rattle.std.specs.Prelude.{◌≡◌, true, false, List, [], ℕ, ◌+◌, ◌<◌, ◌≤◌, length, drop};
-ghost use Rattle.wlan.specs.declared.BusAnswer as answer;
-ghost use Rattle.wlan.specs.declared.Outcome.{Outcome};
+ghost use Rattle.std.specs.Prelude.{◌≡◌, true, false, List, [], ℕ, ◌+◌, ◌<◌, ◌≤◌, length, drop, Ok, Err};
 ghost use Rattle.wlan.specs.declared.State.{State};
 ghost use Rattle.definition.specs.Bus.{Bytes};
 ghost use Rattle.definition.specs.Event.{event_of};
@@ -28,6 +26,7 @@ ghost use Rattle.run_end.specs.RunEnd as ending;
 ghost use Rattle.turning.specs.Turning as turning;
 ghost use Rattle.ioctl_call.specs.IoctlCall as ioctl;
 ghost use Rattle.exchange_call.specs.ExchangeCall as to;
+ghost use Rattle.wlan.specs.Results.{fault_at};
 
 use asking::{Asked, ask_clock, ask_tick, ask_wait};
 use control::{Ending, Job, Lens, Stage};
@@ -41,6 +40,7 @@ use plans::{PauseKind, Plan, begins, clock_plan, exchange_plan, fault_plan, resu
 use reply_points::IoctlAt;
 use run_end::{RunEnd, done_end, error_end, success_end};
 use turning::{back_end, is_back};
+use wlan::{SessionBytes, UndoBytes, WorkBuffer};
 
 // It goes on with a plan, or is over. end.len: how many words are in the log.
 #[derive(Clone, Copy)]
@@ -75,7 +75,7 @@ fn over(end: RunEnd) -> CallTurned
 
 // What a call gives at its end.
 fn ending_end(e: Ending, buf: &[u8], len: usize) -> RunEnd
-    ensures { (result ≡ ending.end_by (Outcome.Ok (success_of e buf.now)) len) × ending.SuccessFits (success_of e buf.now) }
+    ensures { (result ≡ ending.end_by (Ok (success_of e buf.now)) len) × ending.SuccessFits (success_of e buf.now) }
 {
     success_end(success_of(e, buf), len)
 }
@@ -88,15 +88,14 @@ fn exchange_turn(
     p: IoctlAt,
     pos: usize,
     len: usize,
-    s: &mut [u8],
-    undo: &mut [u8],
+    s: &mut SessionBytes,
+    undo: &mut UndoBytes,
     rec: &[u32],
     log: &mut [u32],
-    buf: &mut [u8],
+    buf: &mut WorkBuffer,
 ) -> CallTurned
     requires s_value { is_session s.old ≡ true }
     requires kept_2 { Kept undo.old }
-    requires buf_len { length buf.old ≡ 2048 }
     requires len_in_bounds { len ≤ length log.old }
     ensures on { (first second : Bytes) → length first + length second < 60000 → l ≡ lens_of (args_of j first second) → (e : World) → to.Turns (args_of j first second) e (ioctl.asked_at (args_of j first second) g e rec.now log.old pos len p s.old buf.old) rec.now result log.new s.new buf.new }
     ensures held { is_session s.new ≡ true }
@@ -146,8 +145,8 @@ fn ask_at(
 
 // What follows the clock, the tick or a wait.
 fn answer_plan(k: CallKind, p: PauseKind, fault: bool, v: u64) -> Plan
-    ensures faulted { fault ≡ true → v < 256 → (ns : ℕ) (j : job.Job) (l : lens.Lens) (s : State) (z : Arrival) → call_answer j l s (to.point_by k p ns) (answer.BusAnswer.Fault v) z ≡ plans.planned result j l s false Before.None }
-    ensures told { fault ≡ false → (ns : ℕ) (j : job.Job) (l : lens.Lens) (s : State) (z : Arrival) → call_answer j l s (to.point_by k p ns) (answer.BusAnswer.Value v) z ≡ plans.planned result j l s false Before.None }
+    ensures faulted { fault ≡ true → v < 256 → (ns : ℕ) (j : job.Job) (l : lens.Lens) (s : State) (z : Arrival) → call_answer j l s (to.point_by k p ns) (Err (fault_at v)) z ≡ plans.planned result j l s false Before.None }
+    ensures told { fault ≡ false → (ns : ℕ) (j : job.Job) (l : lens.Lens) (s : State) (z : Arrival) → call_answer j l s (to.point_by k p ns) (Ok v) z ≡ plans.planned result j l s false Before.None }
 {
     match k {
         CallKind::Clock => {
@@ -193,15 +192,14 @@ fn stand(
     n: CallNow,
     pos: usize,
     len: usize,
-    s: &mut [u8],
-    undo: &mut [u8],
+    s: &mut SessionBytes,
+    undo: &mut UndoBytes,
     rec: &[u32],
     log: &mut [u32],
-    buf: &mut [u8],
+    buf: &mut WorkBuffer,
 ) -> CallTurned
     requires s_value { is_session s.old ≡ true }
     requires kept_2 { Kept undo.old }
-    requires buf_len { length buf.old ≡ 2048 }
     requires len_in_bounds { len ≤ length log.old }
     ensures on { (first second : Bytes) → length first + length second < 60000 → l ≡ lens_of (args_of j first second) → (e : World) → to.Turns (args_of j first second) e (go e (drop pos rec.now) log.old len (call_tree (args_of j first second) (at.next_of n) (turning.world_in s.old buf.old))) rec.now result log.new s.new buf.new }
     ensures held { is_session s.new ≡ true }
@@ -237,17 +235,16 @@ fn call_turn(
     f: Plan,
     pos: usize,
     len: usize,
-    s: &mut [u8],
-    undo: &mut [u8],
+    s: &mut SessionBytes,
+    undo: &mut UndoBytes,
     rec: &[u32],
     log: &mut [u32],
-    buf: &mut [u8],
+    buf: &mut WorkBuffer,
     first: &[u8],
     second: &[u8],
 ) -> CallTurned
     requires s_value { is_session s.old ≡ true }
     requires kept_2 { Kept undo.old }
-    requires buf_len { length buf.old ≡ 2048 }
     requires second_len_bound { length first.now + length second.now < 60000 }
     requires l_value { l ≡ lens_of (args_of j first.now second.now) }
     requires len_in_bounds { len ≤ length log.old }
@@ -265,17 +262,16 @@ fn call_run(
     j: Job,
     l: Lens,
     f: Plan,
-    s: &mut [u8],
-    undo: &mut [u8],
+    s: &mut SessionBytes,
+    undo: &mut UndoBytes,
     rec: &[u32],
     log: &mut [u32],
-    buf: &mut [u8],
+    buf: &mut WorkBuffer,
     first: &[u8],
     second: &[u8],
 ) -> RunEnd
     requires s_value { is_session s.old ≡ true }
     requires kept_2 { Kept undo.old }
-    requires buf_len { length buf.old ≡ 2048 }
     requires second_len_bound { length first.now + length second.now < 60000 }
     requires l_value { l ≡ lens_of (args_of j first.now second.now) }
     ensures on { (e : World) (x : End) → to.Plans (args_of j first.now second.now) e x rec.now f 0 0 log.old s.old buf.old → turning.Ends e x result log.new s.new buf.new }
@@ -298,17 +294,16 @@ fn call_run(
 pub fn exchange_run(
     j: Job,
     g: Stage,
-    s: &mut [u8],
-    undo: &mut [u8],
+    s: &mut SessionBytes,
+    undo: &mut UndoBytes,
     rec: &[u32],
     log: &mut [u32],
-    buf: &mut [u8],
+    buf: &mut WorkBuffer,
     first: &[u8],
     second: &[u8],
 ) -> RunEnd
     requires s_value { is_session s.old ≡ true }
     requires kept_2 { Kept undo.old }
-    requires buf_len { length buf.old ≡ 2048 }
     requires second_len_bound { length first.now + length second.now < 60000 }
     ensures on { (e : World) → turning.Ends e (go e (drop 0 rec.now) log.old 0 (call_shown (args_of j first.now second.now) (exchanges_step j (lens_of (args_of j first.now second.now)) g (session_in s.old).st) (event_of [] 0) (turning.world_in s.old buf.old))) result log.new s.new buf.new }
     ensures held { is_session s.new ≡ true }

@@ -11,7 +11,6 @@ use Rattle.wlan.specs.declared.State.{State}
 use Rattle.wlan.specs.State.{with_scan}
 use Rattle.definition.specs.Bus.{Bytes}
 use Rattle.definition.specs.Scan.{cleared}
-use Rattle.send.specs.declared.HeaderPut.{HeaderPut}
 use Rattle.send.specs.Meaning.{laid_header}
 use Rattle.ioctl.specs.declared.IoctlStep.{IoctlStep}
 use Rattle.control.specs.declared.Before.{Before}
@@ -43,6 +42,8 @@ use Rattle.plans.specs.Plans.{plan_by}
 use Rattle.plans.specs.contracts.PlanKind.{the_type}
 use Rattle.exchanging.specs.declared.now.CallNow.{CallNow}
 use Rattle.exchanging.specs.Exchanging.{next_by, next_of, kind_of, Sets, Clears, left_by, Acts}
+use Rattle.std.specs.Prelude.{Option, None}
+use Rattle.send.specs.declared.Header.{Header}
 
 -- the state alone changed, so what is kept gives the same
 front_kept : (u b : List ℕ) {d : List ℕ} (t : State) → Kept u → is_session b ≡ true → Holds d (with_state b t) → back_session u d ≡ back_session u b
@@ -149,7 +150,7 @@ moved {a} {u} {v} {b} {m} {d} {c₀} {c} {f} {t} {r} {h} g k hb hm q =
 
 -- the key's payload is laid before a wait
 pub key-act : {a : Args} {u v b : List ℕ} {c₀ c m : Bytes} {r : CallNow} {h : Bool} {n : CallNext} (before : Before) (put : RequestPut) → is_session b ≡ true → next_of r ≡ n → c ≡ laid_before before c₀ → m ≡ laid_request a put c → LaidKept u v c m
-    → Acts a u v b b c₀ c m r h (step (session_in b).st h (lays before put HeaderPut.None) n)
+    → Acts a u v b b c₀ c m r h (step (session_in b).st h (lays before put None) n)
 unfolding laid_all laid_header
 key-act {a} {u} {v} {b} {c₀} {c} before put hb n e l k =
     record {
@@ -166,7 +167,7 @@ key-act {a} {u} {v} {b} {c₀} {c} before put hb n e l k =
 
 pub begun : {a : Args} {u v b m d : List ℕ} {c₀ c f : Bytes} {n : IoctlNow} {r : CallNow} (x : IoctlStep) (g : Stage) (h : Bool) (before : Before) (put : RequestPut)
     → c ≡ laid_request a put (laid_before before c₀) → Starts u v b m c f n x
-    → ((y : HeaderPut) → Sets m d r h (lays before put (reply.header_in (reply.next_of n y))) (to.begun_by (reply.next_of n y) (session_in m).st g h before put))
+    → ((y : Option Header) → Sets m d r h (lays before put (reply.header_in (reply.next_of n y))) (to.begun_by (reply.next_of n y) (session_in m).st g h before put))
     → Acts a u v b d c₀ c f r h (to.begun x g h before put)
 unfolding laid_all
 begun {a} {u} {v} {b} {m} {d} {c₀} {c} {f} {n} {r} x g h before put e k q =

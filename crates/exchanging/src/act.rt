@@ -23,9 +23,9 @@ use laying::lay_payload;
 use places::write::{put_marks, put_tick, put_wifi};
 use plans::{PauseKind, Plan, PlanKind};
 use requests::Request;
-use wlan::{DriverError, ScanMarks, StartedTick, WifiAuth, WifiState};
+use wlan::{DriverError, ScanMarks, SessionBytes, UndoBytes, WifiAuth, WifiState, WorkBuffer};
 
-fn refuse_join(s: &mut [u8], a: WifiAuth) -> CallNow
+fn refuse_join(s: &mut SessionBytes, a: WifiAuth) -> CallNow
     requires { is_session s.old ≡ true }
     ensures { (h : Bool) (before : Before) → at.Sets s.old s.new result h (lay_before before) (refuses (linked_state (plans.connecting_by a (session_in s.old).st) wifi.WifiState.Down) h before error.DriverError.InvalidArg) }
 {
@@ -34,17 +34,22 @@ fn refuse_join(s: &mut [u8], a: WifiAuth) -> CallNow
     refuse(DriverError::InvalidArg)
 }
 
-fn lay_key(s: &mut [u8], undo: &mut [u8], buf: &mut [u8], first: &[u8], second: &[u8]) -> CallNow
+fn lay_key(
+    s: &mut SessionBytes,
+    undo: &mut UndoBytes,
+    buf: &mut WorkBuffer,
+    first: &[u8],
+    second: &[u8],
+) -> CallNow
     requires s_value { is_session s.old ≡ true }
     requires kept { Kept undo.old }
-    requires buf_len { length buf.old ≡ 2048 }
     ensures { (j : job.Job) (h : Bool) (before : Before) (c₀ : Bytes) → buf.old ≡ laid_before before c₀ → at.Acts (args_of j first.now second.now) undo.old undo.new s.old s.new c₀ buf.old buf.new result h (plans.key_laid (session_in s.old).st h before) }
 {
     lay_payload(undo, buf, Request::Key, first, second);
     pause_at(PauseKind::BeforeKey, 0)
 }
 
-fn scanned(s: &mut [u8]) -> CallNow
+fn scanned(s: &mut SessionBytes) -> CallNow
     requires { is_session s.old ≡ true }
     ensures { (h : Bool) (before : Before) → at.Clears s.old s.new result h (lay_before before) (to.scan_step (session_in s.old).st h before) }
 {
@@ -58,16 +63,16 @@ fn scanned(s: &mut [u8]) -> CallNow
 }
 
 // leave's end.
-fn disconnect(s: &mut [u8], t: u64) -> CallNow
+fn disconnect(s: &mut SessionBytes, t: u64) -> CallNow
     requires { is_session s.old ≡ true }
     ensures { (h : Bool) (before : Before) → at.Sets s.old s.new result h (lay_before before) (ends (to.disconnecting_state (session_in s.old).st t) h before ending.Ending.Done) }
 {
     put_wifi(s, WifiState::Disconnecting);
-    put_tick(s, StartedTick::Some(t));
+    put_tick(s, Some(t));
     end(Ending::Done)
 }
 
-fn refuse_down(s: &mut [u8], e: DriverError) -> CallNow
+fn refuse_down(s: &mut SessionBytes, e: DriverError) -> CallNow
     requires { is_session s.old ≡ true }
     ensures { (h : Bool) (before : Before) → at.Sets s.old s.new result h (lay_before before) (refuses (linked_state (session_in s.old).st wifi.WifiState.Down) h before e) }
 {
@@ -93,15 +98,14 @@ pub fn act(
     j: Job,
     l: Lens,
     f: Plan,
-    s: &mut [u8],
-    undo: &mut [u8],
-    buf: &mut [u8],
+    s: &mut SessionBytes,
+    undo: &mut UndoBytes,
+    buf: &mut WorkBuffer,
     first: &[u8],
     second: &[u8],
 ) -> CallNow
     requires s_value { is_session s.old ≡ true }
     requires kept { Kept undo.old }
-    requires buf_len { length buf.old ≡ 2048 }
     ensures { (h : Bool) (before : Before) (c₀ : Bytes) → buf.old ≡ laid_before before c₀ → at.Acts (args_of j first.now second.now) undo.old undo.new s.old s.new c₀ buf.old buf.new result h (plans.planned f j l (session_in s.old).st h before) }
 {
     let k = f.kind;

@@ -1,7 +1,6 @@
 // A stage's exchange begins.
-ghost use Rattle.std.specs.Prelude.{◌≡◌, Bool, true, false, length};
+ghost use Rattle.std.specs.Prelude.{◌≡◌, Bool, true, false, length, Option};
 ghost use Rattle.definition.specs.Bus.{Bytes};
-ghost use Rattle.send.specs.declared.HeaderPut.{HeaderPut};
 ghost use Rattle.ioctl.specs.Ioctl.{start_step};
 ghost use Rattle.control.specs.declared.Before.{Before};
 ghost use Rattle.control.specs.declared.Job as job;
@@ -19,6 +18,7 @@ ghost use Rattle.undo.specs.Undo.{Kept};
 ghost use Rattle.reply_points.specs.ReplyPoints as reply;
 ghost use Rattle.plans.specs.Plans as plans;
 ghost use Rattle.exchanging.specs.Exchanging as at;
+ghost use Rattle.send.specs.declared.Header.{Header};
 
 use crate::now::{CallNow, exchange_at, refuse};
 use control::{Job, Lens, Stage};
@@ -32,7 +32,7 @@ use requests::Request;
 use sdpcm::header::next_id;
 use steps::stages::{is_last, request_at, request_len};
 use steps::steps::is_dev_error;
-use wlan::{DriverError, WifiAuth, WifiState};
+use wlan::{DriverError, SessionBytes, UndoBytes, WifiAuth, WifiState, WorkBuffer};
 
 // The length of a payload that no byte argument changes.
 fn fixed_len(g: Stage) -> u16
@@ -74,7 +74,7 @@ pub fn stage_len(j: Job, g: Stage, l: Lens) -> u16
 }
 
 // A beginning was refused; join's last request leaves Down.
-fn unbegun(s: &mut [u8], g: Stage, e: DriverError) -> CallNow
+fn unbegun(s: &mut SessionBytes, g: Stage, e: DriverError) -> CallNow
     requires { is_session s.old ≡ true }
     ensures { (h : Bool) (lay : Lay) → at.Sets s.old s.new result h lay (to.unbegun (session_in s.old).st g h lay e) }
 {
@@ -89,9 +89,9 @@ fn unbegun(s: &mut [u8], g: Stage, e: DriverError) -> CallNow
 }
 
 // After the first step of the exchange.
-fn begun(s: &mut [u8], n: IoctlNow, g: Stage) -> CallNow
+fn begun(s: &mut SessionBytes, n: IoctlNow, g: Stage) -> CallNow
     requires { is_session s.old ≡ true }
-    ensures { (h : Bool) (before : Before) (put : RequestPut) (x : HeaderPut) → at.Sets s.old s.new result h (lays before put (reply.header_in (reply.next_of n x))) (to.begun_by (reply.next_of n x) (session_in s.old).st g h before put) }
+    ensures { (h : Bool) (before : Before) (put : RequestPut) (x : Option Header) → at.Sets s.old s.new result h (lays before put (reply.header_in (reply.next_of n x))) (to.begun_by (reply.next_of n x) (session_in s.old).st g h before put) }
 {
     let k = n.kind;
     let p = n.at;
@@ -103,7 +103,7 @@ fn begun(s: &mut [u8], n: IoctlNow, g: Stage) -> CallNow
     }
 }
 
-fn new_id(s: &[u8]) -> u8
+fn new_id(s: &SessionBytes) -> u8
     requires { is_session s.now ≡ true }
     ensures { result ≡ to.new_id (session_in s.now).st }
 {
@@ -112,10 +112,15 @@ fn new_id(s: &[u8]) -> u8
 }
 
 // The request lies in buf; len is its payload's length.
-fn begin_laid(s: &mut [u8], undo: &mut [u8], buf: &mut [u8], g: Stage, len: u16) -> CallNow
+fn begin_laid(
+    s: &mut SessionBytes,
+    undo: &mut UndoBytes,
+    buf: &mut WorkBuffer,
+    g: Stage,
+    len: u16,
+) -> CallNow
     requires s_value { is_session s.old ≡ true }
     requires kept { Kept undo.old }
-    requires buf_len { length buf.old ≡ 2048 }
     ensures { (a : Args) (h : Bool) (before : Before) (put : RequestPut) (c₀ : Bytes) → buf.old ≡ laid_request a put (laid_before before c₀) → at.Acts a undo.old undo.new s.old s.new c₀ buf.old buf.new result h (to.begun (start_step (session_in s.old).st len) g h before put) }
 {
     let n = ioctl_start(s, undo, buf, len);
@@ -125,15 +130,14 @@ fn begin_laid(s: &mut [u8], undo: &mut [u8], buf: &mut [u8], g: Stage, len: u16)
 // Lays a stage's request.
 fn lay_by(
     begin: BeginKind,
-    undo: &mut [u8],
-    buf: &mut [u8],
+    undo: &mut UndoBytes,
+    buf: &mut WorkBuffer,
     r: Request,
     first: &[u8],
     second: &[u8],
     id: u8,
 )
     requires kept_2 { Kept undo.old }
-    requires buf_len { length buf.old ≡ 2048 }
     ensures laid { (j : job.Job) → buf.new ≡ laid_request (args_of j first.now second.now) (plans.put_by begin r id) buf.old }
     ensures kept { LaidKept undo.old undo.new buf.old buf.new }
 {
@@ -150,15 +154,14 @@ fn begin_put(
     l: Lens,
     begin: BeginKind,
     g: Stage,
-    s: &mut [u8],
-    undo: &mut [u8],
-    buf: &mut [u8],
+    s: &mut SessionBytes,
+    undo: &mut UndoBytes,
+    buf: &mut WorkBuffer,
     first: &[u8],
     second: &[u8],
 ) -> CallNow
     requires s_value { is_session s.old ≡ true }
     requires kept { Kept undo.old }
-    requires buf_len { length buf.old ≡ 2048 }
     ensures { (h : Bool) (before : Before) (c₀ : Bytes) → buf.old ≡ laid_before before c₀ → at.Acts (args_of j first.now second.now) undo.old undo.new s.old s.new c₀ buf.old buf.new result h (plans.begun_by begin j l g (session_in s.old).st h before) }
 {
     let r = request_at(j, g);
@@ -167,7 +170,7 @@ fn begin_put(
     begin_laid(s, undo, buf, g, request_len(r, l))
 }
 
-pub fn connecting(s: &mut [u8], a: WifiAuth)
+pub fn connecting(s: &mut SessionBytes, a: WifiAuth)
     requires { is_session s.old ≡ true }
     ensures { Holds s.new (with_state s.old (plans.connecting_by a (session_in s.old).st)) }
 {
@@ -176,7 +179,7 @@ pub fn connecting(s: &mut [u8], a: WifiAuth)
 }
 
 // Join's last request begins with the link's state.
-fn connect_by(begin: BeginKind, s: &mut [u8], a: WifiAuth)
+fn connect_by(begin: BeginKind, s: &mut SessionBytes, a: WifiAuth)
     requires { is_session s.old ≡ true }
     ensures { Holds s.new (with_state s.old (plans.state_by begin a (session_in s.old).st)) }
 {
@@ -192,15 +195,14 @@ pub fn begin(
     l: Lens,
     begin: BeginKind,
     g: Stage,
-    s: &mut [u8],
-    undo: &mut [u8],
-    buf: &mut [u8],
+    s: &mut SessionBytes,
+    undo: &mut UndoBytes,
+    buf: &mut WorkBuffer,
     first: &[u8],
     second: &[u8],
 ) -> CallNow
     requires s_value { is_session s.old ≡ true }
     requires kept { Kept undo.old }
-    requires buf_len { length buf.old ≡ 2048 }
     ensures { (h : Bool) (before : Before) (c₀ : Bytes) → buf.old ≡ laid_before before c₀ → at.Acts (args_of j first.now second.now) undo.old undo.new s.old s.new c₀ buf.old buf.new result h (plans.begin_by begin j l g (session_in s.old).st h before) }
 {
     let a = j.auth;

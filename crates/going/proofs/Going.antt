@@ -10,7 +10,6 @@ use Rattle.slices.specs.Pick.{pick}
 use Rattle.slices.specs.Over.{over}
 use Rattle.slices.proofs.Over.{length_over, over-append}
 use Rattle.wlan.specs.declared.DriverError.{DriverError}
-use Rattle.wlan.specs.declared.Outcome.{Outcome}
 use Rattle.wlan.specs.declared.Refusal.{Refusal}
 use Rattle.definition.specs.Bus.{Bytes, Op, words_of, log_of, Answer, answers, Ans, Taken, got, wrong, taken_by}
 use Rattle.definition.specs.Prog.{World, Prog, ret, stop, ask, say, loop, note}
@@ -19,6 +18,7 @@ use Rattle.definition.specs.Run as def
 use Rattle.definition.specs.Run.{End, Settled, settle, words, run, finished, rolled_back, answered, unanswered, resumed, afterwards}
 use Rattle.definition.proofs.Compose.{unroll}
 use Rattle.going.specs.Onward.{finish, go, heard}
+use Rattle.std.specs.Prelude.{Ok, Err}
 
 -- ---- the front opened
 
@@ -58,21 +58,21 @@ module _ (e : World) where
 
   -- ---- the ends
 
-  pub run_ret : (more : List Answer) (room : ℕ) (r : Result) (w : World) → run e more room (ret r w) ≡ finished (Outcome.Ok r.success) r.output w
+  pub run_ret : (more : List Answer) (room : ℕ) (r : Result) (w : World) → run e more room (ret r w) ≡ finished (Ok r.success) r.output w
   unfolding run settle
   run_ret [] room r w = refl
   run_ret (a ∷ more) room r w = refl
 
-  pub go-ret : (ws log : List ℕ) (len : ℕ) (r : Result) (w : World) → go e ws log len (ret r w) ≡ finish log len (finished (Outcome.Ok r.success) r.output w)
+  pub go-ret : (ws log : List ℕ) (len : ℕ) (r : Result) (w : World) → go e ws log len (ret r w) ≡ finish log len (finished (Ok r.success) r.output w)
   unfolding go
   go-ret ws log len r w = ap (finish log len) (run_ret (answers ws) (length log - len) r w)
 
-  pub run-stop : (more : List Answer) (room : ℕ) (x : DriverError) (w : World) → run e more room (stop x w) ≡ finished (Outcome.Refused (Refusal.Driver x)) [] w
+  pub run-stop : (more : List Answer) (room : ℕ) (x : DriverError) (w : World) → run e more room (stop x w) ≡ finished (Err (Refusal.Driver x)) [] w
   unfolding run settle
   run-stop [] room x w = refl
   run-stop (a ∷ more) room x w = refl
 
-  pub go-stop : (ws log : List ℕ) (len : ℕ) (x : DriverError) (w : World) → go e ws log len (stop x w) ≡ finish log len (finished (Outcome.Refused (Refusal.Driver x)) [] w)
+  pub go-stop : (ws log : List ℕ) (len : ℕ) (x : DriverError) (w : World) → go e ws log len (stop x w) ≡ finish log len (finished (Err (Refusal.Driver x)) [] w)
   unfolding go
   go-stop ws log len x w = ap (finish log len) (run-stop (answers ws) (length log - len) x w)
 

@@ -12,16 +12,13 @@ use borrow.Author.Tests.{le-leb, lt-leb, eq-eqb, ne_eqb}
 use Rattle.slices.specs.Pick.{pick}
 use Rattle.slices.specs.Over.{over}
 use Rattle.slices.proofs.Over.{over-nil}
-use Rattle.wlan.specs.declared.BusAnswer.{BusAnswer}
 use Rattle.wlan.specs.declared.BusOp.{BusOp}
-use Rattle.wlan.specs.declared.Outcome.{Outcome}
 use Rattle.wlan.specs.declared.Refusal.{Refusal}
 use Rattle.definition.specs.Bus.{Bytes, Place, Op, words_of, log_of, size_of, answers, Ans, val}
 use Rattle.definition.specs.Prog.{World, Prog, ask, say}
 use Rattle.definition.specs.Poll.{Result}
 use Rattle.definition.specs.Run.{words, rolled_back, shown}
 use Rattle.definition.proofs.Compose.{unroll}
-use Rattle.answers.specs.declared.Taken.{Taken}
 use Rattle.bus.specs.Op.{op_of, bare}
 use Rattle.answers.specs.Taken.{taken_of}
 use Rattle.answers.proofs.Answers.{rest_of, head_at, size-pos, taken-any, taken-bare, taken-unrecorded, taken-wrong, taken-fault, taken-value}
@@ -29,6 +26,9 @@ use Rattle.device.specs.Meaning.{secretly, op_in, asking, told, landing, InRange
 use Rattle.effects.specs.Answer.{answer_in, is_wait}
 use Rattle.going.specs.Onward.{finish, go, heard, responded, end_of, called_by}
 use Rattle.going.proofs.Going.{go-unroll, go-ask, go-say}
+use Rattle.std.specs.Prelude.{Ok, Err}
+use Rattle.wlan.specs.Results.{BusAnswer}
+use Rattle.answers.specs.declared.NoAnswer.{NoAnswer}
 
 -- ---- where a passphrase was laid is not seen
 
@@ -84,23 +84,23 @@ module _ (e : World) (ws log : List ℕ) (len : ℕ) (op : BusOp) (s : Place) (b
   q = op_in op s b
 
   -- 8
-  pub heard-none : Taken.Unrecorded ≡ taken_of (op_of op []) ws → finish log len (rolled_back Refusal.Unrecorded e) ≡ heard e (answers ws) log len q k
+  pub heard-none : Err NoAnswer.Unrecorded ≡ taken_of (op_of op []) ws → finish log len (rolled_back Refusal.Unrecorded e) ≡ heard e (answers ws) log len q k
   unfolding heard
   heard-none h = rw (taken-unrecorded q ws (sym (h ∙ taken_in op s b ws)))
 
   -- 9
-  pub heard-wrong : Taken.Wrong ≡ taken_of (op_of op []) ws → finish log len (rolled_back Refusal.WrongAnswer e) ≡ heard e (answers ws) log len q k
+  pub heard-wrong : Err NoAnswer.Wrong ≡ taken_of (op_of op []) ws → finish log len (rolled_back Refusal.WrongAnswer e) ≡ heard e (answers ws) log len q k
   unfolding heard
   heard-wrong h =
       let n = taken-wrong q ws (sym (h ∙ taken_in op s b ws)) in
       rw (n.are, n.taken)
 
-  pub heard-got : (x : BusAnswer) → Taken.Got x ≡ taken_of (op_of op []) ws → go e (rest_of ws) log len (k (answer_in x ws)) ≡ heard e (answers ws) log len q k
+  pub heard-got : (x : BusAnswer) → Ok x ≡ taken_of (op_of op []) ws → go e (rest_of ws) log len (k (answer_in x ws)) ≡ heard e (answers ws) log len q k
   unfolding heard go answer_in
-  heard-got (BusAnswer.Fault p) h =
-      let n = taken-fault q ws p (sym (h ∙ taken_in op s b ws)) in
+  heard-got (Err f) h =
+      let n = taken-fault q ws f.place (sym (h ∙ taken_in op s b ws)) in
       rw (n.are, n.taken)
-  heard-got (BusAnswer.Value v) h =
+  heard-got (Ok v) h =
       let n = taken-value q ws v (sym (h ∙ taken_in op s b ws)) in
       rw (n.are, n.taken)
 
@@ -136,8 +136,8 @@ module _ (e : World) (ws log : List ℕ) (len : ℕ) (op : BusOp) (s : Place) (b
 
 pub told-answer : (x : BusAnswer) (ws : List ℕ) → told (answer_in x ws) ≡ x
 unfolding told answer_in
-told-answer (BusAnswer.Fault p) ws = refl
-told-answer (BusAnswer.Value v) ws = refl
+told-answer (Err f) ws = refl
+told-answer (Ok v) ws = refl
 
 -- an operation has a word or more
 pub words-pos : (q : Op) → 1 ≤ length (words_of q)
@@ -188,11 +188,11 @@ pub rest-go : (e : World) (rec log : List ℕ) (pos len used : ℕ) (p : Prog Re
 rest-go e rec log pos len used p h = rw (rest-is rec pos, h)
 
 -- an answer that was taken is there
-pub got-whole : (op : BusOp) (rec : List ℕ) (pos : ℕ) (x : BusAnswer) → Taken.Got x ≡ taken_of (op_of op []) (drop pos rec) → pos + size_of (get_or rec pos 0) ≤ length rec
-got-whole op rec pos (BusAnswer.Fault p) h =
-    let w : size_of (get_or rec pos 0) ≤ length (drop pos rec) = rw (head_at rec pos) at (taken-fault (op_of op []) (drop pos rec) p (sym h)).whole in
+pub got-whole : (op : BusOp) (rec : List ℕ) (pos : ℕ) (x : BusAnswer) → Ok x ≡ taken_of (op_of op []) (drop pos rec) → pos + size_of (get_or rec pos 0) ≤ length rec
+got-whole op rec pos (Err f) h =
+    let w : size_of (get_or rec pos 0) ≤ length (drop pos rec) = rw (head_at rec pos) at (taken-fault (op_of op []) (drop pos rec) f.place (sym h)).whole in
     omega (arith, length-drop pos rec, size-pos (get_or rec pos 0))
-got-whole op rec pos (BusAnswer.Value v) h =
+got-whole op rec pos (Ok v) h =
     let w : size_of (get_or rec pos 0) ≤ length (drop pos rec) = rw (head_at rec pos) at (taken-value (op_of op []) (drop pos rec) v (sym h)).whole in
     omega (arith, length-drop pos rec, size-pos (get_or rec pos 0))
 
@@ -208,6 +208,6 @@ pub called-from : (w : World) (rec log : List ℕ) (p t : Prog Result) → lengt
 called-from w rec log p t h u = ap (go w (drop 0 rec) log 0) (sym u) ∙ (go-unroll w (drop 0 rec) log 0 p ∙ from_start w rec log p h)
 
 -- 13
-pub called-13 : (w : World) (rec log : List ℕ) (p : Prog Result) → (length w.buf ≡ 2048 → ⊥) → end_of (record { outcome = Outcome.Refused Refusal.BufferLength; st = w.st; list = w.list; len = 0 }) log w.buf [] ≡ called_by w rec log p
+pub called-13 : (w : World) (rec log : List ℕ) (p : Prog Result) → (length w.buf ≡ 2048 → ⊥) → end_of (record { outcome = Err Refusal.BufferLength; st = w.st; list = w.list; len = 0 }) log w.buf [] ≡ called_by w rec log p
 unfolding called_by shown log_of over
 called-13 w rec log p h = rw (ne_eqb (length w.buf) 2048 h, over-nil log 0)

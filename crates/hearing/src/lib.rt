@@ -13,26 +13,22 @@ ghost use Rattle.places.specs.Places.{Holds};
 ghost use Rattle.hearing.specs.Hearing as to;
 
 use session_bytes::list::{count_bytes, put_whole};
-use words::quad;
+use wlan::SessionBytes;
 
-pub fn count_in(s: &[u8]) -> usize
-    requires { length s.now ≡ 1393 }
+pub fn count_in(s: &SessionBytes) -> usize
     ensures { result ≡ (session_in s.now).list.count }
 {
-    quad(s[41], s[42], s[43], s[44]) as usize
-        + 4294967296 * quad(s[45], s[46], s[47], s[48]) as usize
+    usize::from_le_bytes([s[41], s[42], s[43], s[44], s[45], s[46], s[47], s[48]])
 }
 
-fn put_count(s: &mut [u8], n: usize)
-    requires { length s.old ≡ 1393 }
+fn put_count(s: &mut SessionBytes, n: usize)
     ensures { s.new ≡ over s.old 41 (le64 n) }
 {
-    let b = count_bytes(n);
-    put_whole(s, 41, &b);
+    put_whole(s, 41, &count_bytes(n));
 }
 
 // The records stay.
-pub fn clear(s: &mut [u8])
+pub fn clear(s: &mut SessionBytes)
     requires { is_session s.old ≡ true }
     ensures { Holds s.new (to.with_list s.old (cleared (session_in s.old).list)) }
 {

@@ -1,7 +1,6 @@
 // A scan result in an event's 140 bytes: compared with the records, and laid as one, where it lies.
-ghost use Rattle.std.specs.Prelude.{◌≡◌, true, [], ◌∷◌, ◌++◌, ◌+◌, ◌-◌, ◌≤◌, ◌<◌, min, length, take, drop, get_or, replicate};
+ghost use Rattle.std.specs.Prelude.{◌≡◌, true, [], ◌∷◌, ◌++◌, ◌+◌, ◌-◌, ◌≤◌, ◌<◌, length, take, drop, get_or, replicate};
 ghost use Rattle.slices.specs.Over.{over};
-ghost use Rattle.slices.specs.Le.{le16, le32};
 ghost use Rattle.definition.specs.Scan.{same_network, known};
 ghost use Rattle.definition.specs.Event.{scan_result_of};
 ghost use Rattle.session_bytes.specs.ListBytes.{record_of, record_bytes, Whole};
@@ -11,24 +10,8 @@ ghost use Rattle.hearing.specs.Hearing as to;
 
 use crate::put_count;
 use session_bytes::list::put_whole;
-use slices::{fill_zero, fitting};
-use words::{pair, quad};
-
-// The number whose bytes are the 4 from index at on.
-fn four_at(s: &[u8], at: usize) -> u32
-    requires { at + 4 ≤ length s.now }
-    ensures { le32 result ≡ take 4 (drop at s.now) }
-{
-    quad(s[at], s[at + 1], s[at + 2], s[at + 3])
-}
-
-// The same of 2.
-fn two_at(s: &[u8], at: usize) -> u16
-    requires { at + 2 ≤ length s.now }
-    ensures { le16 result ≡ take 2 (drop at s.now) }
-{
-    pair(s[at], s[at + 1])
-}
+use slices::fill_zero;
+use wlan::SessionBytes;
 
 // The same BSSID and channel, of the event e and of the record at index at.
 fn same_result_at(s: &[u8], at: usize, e: &[u8]) -> bool
@@ -36,37 +19,15 @@ fn same_result_at(s: &[u8], at: usize, e: &[u8]) -> bool
     requires e_len { length e.now ≡ 140 }
     ensures { result ≡ same_network (record_of (drop at s.now)) (scan_result_of e.now) }
 {
-    if four_at(s, at + 32) != four_at(e, 68) {
-        return false;
-    }
-    if two_at(s, at + 36) != two_at(e, 72) {
-        return false;
-    }
-    s[at + 39] == e[132]
+    s[at + 32..at + 38] == e[68..74] && s[at + 39] == e[132]
 }
 
 // Is the event's network among the first n records?
-pub fn knows_result(s: &[u8], n: usize, e: &[u8]) -> bool
-    requires s_len { length s.now ≡ 1393 }
+pub fn knows_result(s: &SessionBytes, n: usize, e: &[u8]) -> bool
     requires e_len { length e.now ≡ 140 }
     ensures { result ≡ known (take n (session_in s.now).list.records) (scan_result_of e.now) }
 {
-    let m = fitting(32, 0, n);
-    let mut i = 0;
-    while i < m {
-        if same_result_at(s, 49 + 42 * i, e) {
-            return true;
-        }
-        i += 1;
-    }
-    false
-}
-
-// An SSID is at most 32 bytes long.
-fn ssid_length(n: u8) -> u8
-    ensures { result ≡ min n 32 }
-{
-    if n < 32 { n } else { 32 }
+    (0..n.min(32)).any(|i| same_result_at(s, 49 + 42 * i, e))
 }
 
 // The n bytes of the SSID, and zeros.
@@ -86,25 +47,24 @@ fn put_rest(s: &mut [u8], at: usize, e: &[u8], n: u8)
     requires e_len { length e.now ≡ 140 }
     ensures { s.new ≡ over s.old at (take 6 (drop 68 e.now) ++ (n ∷ get_or e.now 132 0 ∷ get_or e.now 138 0 ∷ get_or e.now 139 0 ∷ [])) }
 {
-    let tail = [n, e[132], e[138], e[139]];
     put_whole(s, at, &e[68..74]);
-    put_whole(s, at + 6, &tail);
+    put_whole(s, at + 6, &[n, e[132], e[138], e[139]]);
 }
 
-// The event's record; what is read from its bytes is the record.
+// The event's record; what is read from its bytes is the record. An SSID is at most 32 bytes long.
 fn put_result(s: &mut [u8], at: usize, e: &[u8])
     requires at_in_bounds { at + 42 ≤ length s.old }
     requires e_len { length e.now ≡ 140 }
     ensures put { s.new ≡ over s.old at (record_bytes (scan_result_of e.now)) }
     ensures back { Whole (scan_result_of e.now) }
 {
-    let n = ssid_length(e[78]);
-    put_ssid(s, at, e, n as usize);
+    let n = e[78].min(32);
+    put_ssid(s, at, e, usize::from(n));
     put_rest(s, at + 32, e, n);
 }
 
 // The list with the event's record added; its count is n.
-pub fn add_result(s: &mut [u8], n: usize, e: &[u8])
+pub fn add_result(s: &mut SessionBytes, n: usize, e: &[u8])
     requires s_value { is_session s.old ≡ true }
     requires n_value { (n ≡ (session_in s.old).list.count) × (n < 32) }
     requires e_len { length e.now ≡ 140 }

@@ -11,7 +11,6 @@ use Rattle.slices.specs.Over.{over}
 use Rattle.wlan.specs.State.{with_sdpcm, with_pending, set_reply}
 use Rattle.wlan.specs.declared.DriverError.{DriverError}
 use Rattle.wlan.specs.declared.PendingIoctlResp.{PendingIoctlResp}
-use Rattle.wlan.specs.declared.PendingResp.{PendingResp}
 use Rattle.wlan.specs.declared.AsyncEvent.{AsyncEvent}
 use Rattle.wlan.specs.declared.SdpcmPacket.{SdpcmPacket}
 use Rattle.wlan.specs.declared.State.{State}
@@ -31,7 +30,6 @@ use Rattle.device.specs.Poll.{poll_op, poll_start}
 use Rattle.device.specs.Meaning.{secretly, op_in, asking, told, landing, InRange, arrival_at, Kp, poll_tree, landed_world, poll_step_at, Tells}
 use Rattle.device.proofs.Asking.{asking-bind, unroll-asking}
 use Rattle.device.proofs.Bridge.{poll-is, poll-tells}
-use Rattle.send.specs.declared.HeaderPut.{HeaderPut}
 use Rattle.send.specs.declared.OutPacket.{OutPacket}
 use Rattle.send.specs.declared.SendNext.{SendNext}
 use Rattle.send.specs.declared.SendPoint.{SendPoint}
@@ -46,6 +44,7 @@ use Rattle.ioctl.specs.declared.IoctlNext.{IoctlNext}
 use Rattle.ioctl.specs.declared.IoctlStep.{IoctlStep}
 use Rattle.ioctl.specs.Ioctl.{ioctl_op, step, asks, refuses, shorter, out_of, finish_step, answered_by, sent_step, sending_next, sending_step, numbering, start_step, packet_step, reply_next, reply_poll, test_step, at_first, at_test, ioctl_answer}
 use Rattle.ioctl.specs.Meaning.{laid_copy, after_sent, Ki, ioctl_tree, ioctl_shown, event_at, ioctl_step_at}
+use Rattle.std.specs.Prelude.{Option, Some, None}
 
 pub shorter-is : (a b : ℕ) → shorter a b ≡ min a b
 unfolding shorter
@@ -80,9 +79,9 @@ module _ (len : ℕ) (secret : Place) where
       v : World
       v = world s w.buf (list_heard h e w.list)
 
-      by : (r : PendingResp) → unroll (bind (reply r v) (finished len)) ≡ ioctl_shown len secret (answered_by s h len r) e w
-      by PendingResp.None = refl
-      by (PendingResp.Some r) = finish-is r h e (with_pending s (set_reply s.pending PendingResp.None)) w
+      by : (r : Option PendingIoctlResp) → unroll (bind (reply r v) (finished len)) ≡ ioctl_shown len secret (answered_by s h len r) e w
+      by None = refl
+      by (Some r) = finish-is r h e (with_pending s (set_reply s.pending None)) w
 
   -- by what the send does next
   sending-is : (n : SendNext) (h : Bool) (e : AsyncEvent) (s : State) (w : World) → unroll (bind (send_tree (out_of len) secret n (world s w.buf (list_heard h e w.list))) (after_sent len)) ≡ ioctl_shown len secret (sending_next s h len n) e w

@@ -1,12 +1,10 @@
 -- What the code of `do_ioctl` computes, function by function. A means of proof: `Meaning` says what its points stand for.
-use Rattle.std.specs.Prelude.{ℕ, ◌+◌, ◌%◌, Bool, true, false, ltb}
+use Rattle.std.specs.Prelude.{ℕ, ◌+◌, ◌%◌, Bool, true, false, ltb, Option, Some, None, Ok, Err}
 use Rattle.slices.specs.Pick.{pick}
 use Rattle.wlan.specs.State.{with_sdpcm, with_pending, set_id, set_reply}
-use Rattle.wlan.specs.declared.BusAnswer.{BusAnswer}
 use Rattle.wlan.specs.declared.BusOp.{BusOp}
 use Rattle.wlan.specs.declared.DriverError.{DriverError}
 use Rattle.wlan.specs.declared.PendingIoctlResp.{PendingIoctlResp}
-use Rattle.wlan.specs.declared.PendingResp.{PendingResp}
 use Rattle.wlan.specs.declared.AsyncEvent.{AsyncEvent}
 use Rattle.wlan.specs.declared.SdpcmPacket.{SdpcmPacket}
 use Rattle.wlan.specs.declared.State.{State}
@@ -17,7 +15,6 @@ use Rattle.device.specs.declared.Arrival.{Arrival}
 use Rattle.device.specs.declared.PollNext.{PollNext}
 use Rattle.device.specs.declared.PollPoint.{PollPoint}
 use Rattle.device.specs.Poll.{poll_op, poll_start, poll_answer}
-use Rattle.send.specs.declared.HeaderPut.{HeaderPut}
 use Rattle.send.specs.declared.OutPacket.{OutPacket}
 use Rattle.send.specs.declared.SendNext.{SendNext}
 use Rattle.send.specs.declared.SendStep.{SendStep}
@@ -26,6 +23,7 @@ use Rattle.ioctl.specs.declared.IoctlPoint.{IoctlPoint}
 use Rattle.ioctl.specs.declared.Copied.{Copied}
 use Rattle.ioctl.specs.declared.IoctlNext.{IoctlNext}
 use Rattle.ioctl.specs.declared.IoctlStep.{IoctlStep}
+use Rattle.wlan.specs.Results.{BusAnswer}
 
 unfoldable pub ioctl_op : IoctlPoint → BusOp
 ioctl_op (IoctlPoint.Sending q) = send.send_op q
@@ -38,10 +36,10 @@ abbrev pub step : State → Bool → IoctlNext → IoctlStep
 step s h n = record { st = s; heard = h; next = n }
 
 abbrev pub asks : State → Bool → IoctlPoint → IoctlStep
-asks s h p = step s h (IoctlNext.Ask HeaderPut.None p)
+asks s h p = step s h (IoctlNext.Ask None p)
 
 abbrev pub refuses : State → Bool → DriverError → IoctlStep
-refuses s h e = step s h (IoctlNext.Refused HeaderPut.None e)
+refuses s h e = step s h (IoctlNext.Refused None e)
 
 unfoldable pub shorter : ℕ → ℕ → ℕ
 shorter a b = pick (ltb a b) a b
@@ -56,9 +54,9 @@ finish_step s h len r =
     (step s h (IoctlNext.Done (record { offset = r.buf.offset; count = shorter len r.buf.len }))))
     (refuses s h DriverError.Io)
 
-unfoldable pub answered_by : State → Bool → ℕ → PendingResp → IoctlStep
-answered_by s h len PendingResp.None = asks s h IoctlPoint.First
-answered_by s h len (PendingResp.Some r) = finish_step (with_pending s (set_reply s.pending PendingResp.None)) h len r
+unfoldable pub answered_by : State → Bool → ℕ → Option PendingIoctlResp → IoctlStep
+answered_by s h len None = asks s h IoctlPoint.First
+answered_by s h len (Some r) = finish_step (with_pending s (set_reply s.pending None)) h len r
 
 abbrev pub sent_step : State → Bool → ℕ → IoctlStep
 sent_step s h len = answered_by s h len s.pending.ioctl_resp
@@ -97,12 +95,12 @@ unfoldable pub test_step : State → ℕ → ℕ → IoctlStep
 test_step s t0 t = pick (ltb (elapsed t0 t) 500000) (asks s false (IoctlPoint.Polling t0 (poll_start s.sdpcm))) (refuses s false DriverError.Timeout)
 
 unfoldable pub at_first : State → BusAnswer → IoctlStep
-at_first s (BusAnswer.Value t) = asks s false (IoctlPoint.Test t)
-at_first s (BusAnswer.Fault p) = refuses s false (DriverError.Fault p)
+at_first s (Ok t) = asks s false (IoctlPoint.Test t)
+at_first s (Err f) = refuses s false (DriverError.Fault f.place)
 
 unfoldable pub at_test : State → ℕ → BusAnswer → IoctlStep
-at_test s t0 (BusAnswer.Value t) = test_step s t0 t
-at_test s t0 (BusAnswer.Fault p) = refuses s false (DriverError.Fault p)
+at_test s t0 (Ok t) = test_step s t0 t
+at_test s t0 (Err f) = refuses s false (DriverError.Fault f.place)
 
 unfoldable pub ioctl_answer : State → ℕ → IoctlPoint → BusAnswer → Arrival → IoctlStep
 ioctl_answer s len (IoctlPoint.Sending q) x a = sending_step (send.send_answer s (out_of len) q x a) len

@@ -5,7 +5,7 @@ ghost use Rattle.std.specs.Prelude.{◌≡◌};
 ghost use Rattle.ioctl.specs.Ioctl as to;
 
 use device::PollPoint;
-use send::{HeaderPut, OutPacket, SendPoint};
+use send::{Header, OutPacket, SendPoint};
 use wlan::{DriverError, State};
 
 // While the reply is awaited the number is the clock at the wait's start.
@@ -28,9 +28,9 @@ pub struct Copied {
 
 #[derive(Clone, Copy)]
 pub enum IoctlNext {
-    Ask(HeaderPut, IoctlPoint),
+    Ask(Option<Header>, IoctlPoint),
     Done(Copied),
-    Refused(HeaderPut, DriverError),
+    Refused(Option<Header>, DriverError),
 }
 
 // heard: the scan list is to hear the event that came.

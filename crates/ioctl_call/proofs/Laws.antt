@@ -6,7 +6,6 @@ use mathlib.Core.List.{List}
 use native.Mathlib.Omega.{arith}
 use lib.ListN.{length, drop}
 use Rattle.slices.specs.Pick.{pick}
-use Rattle.wlan.specs.declared.BusAnswer.{BusAnswer}
 use Rattle.wlan.specs.declared.BusOp.{BusOp}
 use Rattle.definition.specs.Bus.{Bytes, Ans, Place, fault, val}
 use Rattle.definition.specs.Prog.{World, world, Prog}
@@ -14,7 +13,6 @@ use Rattle.definition.specs.Poll.{Result}
 use Rattle.definition.specs.Run.{End}
 use Rattle.handling.specs.Handle.{list_heard}
 use Rattle.device.specs.Meaning.{op_in, asking, told, landing, InRange, arrival_at}
-use Rattle.send.specs.declared.HeaderPut.{HeaderPut}
 use Rattle.send.specs.Meaning.{laid_header}
 use Rattle.ioctl.specs.declared.IoctlPoint.{IoctlPoint}
 use Rattle.ioctl.specs.Ioctl.{ioctl_op, ioctl_answer}
@@ -46,6 +44,8 @@ use Rattle.turning.specs.Turning as turning
 use Rattle.turning.proofs.Laws as law
 use Rattle.ioctl_call.specs.declared.IoctlTurned.{IoctlTurned}
 use Rattle.ioctl_call.specs.IoctlCall as to
+use Rattle.std.specs.Prelude.{None, Ok, Err}
+use Rattle.wlan.specs.Results.{BusAnswer, fault_at}
 
 -- ---- the bridge
 
@@ -80,7 +80,7 @@ stepped a g p y b₀ c i hb e rec log pos len b x hx {n} h {u} {v} {d} {f} {r} k
     }
 
 -- a wait has no fault
-pub no-wait : (op : BusOp) (y : Ans) (p : ℕ) → InRange op y → BusAnswer.Fault p ≡ told y → is_wait op ≡ false
+pub no-wait : (op : BusOp) (y : Ans) (p : ℕ) → InRange op y → Err (fault_at p) ≡ told y → is_wait op ≡ false
 unfolding InRange told is_wait
 no-wait BusOp.ReadInterrupt y p i h = refl
 no-wait BusOp.ReadStatus y p i h = refl
@@ -163,21 +163,21 @@ module _ (x : Args) (g : Stage) {n : ℕ} (f : to.Fits x g n) (p : IoctlPoint) {
   unfolding call_tree call_op
   back-comes i = back-stood x g e _ rec r log d c₁ (rw w i) (rw w (backed (ioctl_op p) a k e (secret_at x (CallPoint.Exchange g p)) (λ y. Kc x (CallPoint.Exchange g p) y (turning.world_in s b)) i))
 
-  pub value-comes : turning.is_back a.back ≡ false → a.fault ≡ false → {u v : List ℕ} → Steps u v (BusAnswer.Value a.value) → Comes
+  pub value-comes : turning.is_back a.back ≡ false → a.fault ≡ false → {u v : List ℕ} → Steps u v (Ok a.value) → Comes
   unfolding call_tree call_op
   value-comes i l q =
       on-stood x g e _ rec r log d c₁ (rw w i)
       (rw w (law.asked-value (ioctl_op p) a k e (secret_at x (CallPoint.Exchange g p)) (λ y. Kc x (CallPoint.Exchange g p) y (turning.world_in s b)) s
       (λ (z : End). to.Answered x g e z rec r.now a.pos a.len log d c₁) (law.not_back a.back i) l
-      (λ y hv j hb. stepped x g p y b c j hb e rec log a.pos a.len s (BusAnswer.Value a.value) hv f q)))
+      (λ y hv j hb. stepped x g p y b c j hb e rec log a.pos a.len s (Ok a.value) hv f q)))
 
-  pub fault-comes : turning.is_back a.back ≡ false → a.fault ≡ true → {u v : List ℕ} → (is_wait (ioctl_op p) ≡ false → a.value < 256 → Steps u v (BusAnswer.Fault a.value)) → Comes
+  pub fault-comes : turning.is_back a.back ≡ false → a.fault ≡ true → {u v : List ℕ} → (is_wait (ioctl_op p) ≡ false → a.value < 256 → Steps u v (Err (fault_at a.value))) → Comes
   unfolding call_tree call_op
   fault-comes i l q =
       on-stood x g e _ rec r log d c₁ (rw w i)
       (rw w (law.asked-faulted (ioctl_op p) a k e (secret_at x (CallPoint.Exchange g p)) (λ y. Kc x (CallPoint.Exchange g p) y (turning.world_in s b)) s
       (λ (z : End). to.Answered x g e z rec r.now a.pos a.len log d c₁) (law.not_back a.back i) l
-      (λ y hv m j hb. stepped x g p y b c j hb e rec log a.pos a.len s (BusAnswer.Fault a.value) hv f (q (no-wait (ioctl_op p) y a.value j hv) m))))
+      (λ y hv m j hb. stepped x g p y b c j hb e rec log a.pos a.len s (Err (fault_at a.value)) hv f (q (no-wait (ioctl_op p) y a.value j hv) m))))
 
 -- ---- a turn
 
@@ -193,7 +193,7 @@ unfolding exchange_next reply.next_by reply.header_in laid_all laid_request laid
 begun-on {a} {g} {e} {rec} n {pos} {len} {log} {b} {buf} h =
     record {
       heard = false;
-      header = HeaderPut.None;
+      header = None;
       event = (arrival_at BusOp.ReadClock buf (session_in b).st.sdpcm).event;
       under = buf;
       list = (session_in b).list;

@@ -1,6 +1,6 @@
 -- What the rest of a recording makes of an exchange, from where its run stands; b: the session's bytes, a: the call's arguments, x: what the
 -- run comes to.
-use Rattle.std.specs.Prelude.{ℕ, ◌+◌, ◌<◌, ◌≡◌, Bool, false, List, length, drop}
+use Rattle.std.specs.Prelude.{ℕ, ◌+◌, ◌<◌, ◌≡◌, Bool, false, List, length, drop, Option}
 use Rattle.slices.specs.Pick.{pick}
 use Rattle.wlan.specs.declared.AsyncEvent.{AsyncEvent}
 use Rattle.wlan.specs.declared.ScanList.{ScanList}
@@ -8,7 +8,6 @@ use Rattle.definition.specs.Bus.{Bytes}
 use Rattle.definition.specs.Prog.{World, world}
 use Rattle.definition.specs.Run.{End}
 use Rattle.handling.specs.Handle.{list_heard}
-use Rattle.send.specs.declared.HeaderPut.{HeaderPut}
 use Rattle.send.specs.Meaning.{laid_header}
 use Rattle.control.specs.declared.CallNext.{CallNext}
 use Rattle.control.specs.declared.CallPoint.{CallPoint}
@@ -25,6 +24,7 @@ use Rattle.reply_points.specs.ReplyPoints as reply
 use Rattle.plans.specs.Plans.{is_ask}
 use Rattle.turning.specs.Turning.{world_in, is_back}
 use Rattle.ioctl_call.specs.declared.IoctlTurned.{IoctlTurned}
+use Rattle.send.specs.declared.Header.{Header}
 
 -- stage g of arguments that fit, whose payload is n bytes long
 pub record Fits (a : Args) (g : Stage) (n : ℕ) : Type 0 where
@@ -38,7 +38,7 @@ asked_at a g e rec log pos len p b buf = go e (drop pos rec) log len (call_tree 
 -- what follows the exchange's step n is left; its header is laid and what it heard is in the list
 pub record Answered (a : Args) (g : Stage) (e : World) (x : End) (rec : List ℕ) (n : IoctlNow) (pos len : ℕ) (log b : List ℕ) (buf : Bytes) : Type 0 where
   pub heard : Bool
-  pub header : HeaderPut
+  pub header : Option Header
   pub event : AsyncEvent
   pub under : Bytes
   pub list : ScanList

@@ -19,7 +19,7 @@ use asking::{Asked, Back};
 use reply_points::{IoctlAt, IoctlNow, IoctlNowKind, ioctl_fault};
 use replying::ioctl_answer;
 use turning::is_back;
-use wlan::DriverError;
+use wlan::{DriverError, SessionBytes, UndoBytes, WorkBuffer};
 
 // Its last step, and what its last operation was answered.
 #[derive(Clone, Copy)]
@@ -85,15 +85,14 @@ fn ioctl_turn(
     p: IoctlAt,
     pos: usize,
     len: usize,
-    s: &mut [u8],
-    undo: &mut [u8],
+    s: &mut SessionBytes,
+    undo: &mut UndoBytes,
     rec: &[u32],
     log: &mut [u32],
-    buf: &mut [u8],
+    buf: &mut WorkBuffer,
 ) -> IoctlTurned
     requires s_value { is_session s.old ≡ true }
     requires kept_2 { Kept undo.old }
-    requires buf_len { length buf.old ≡ 2048 }
     ensures on { (x : Args) (g : stage.Stage) → to.Fits x g n → (e : World) → to.Stood x g e (to.asked_at x g e rec.now log.old pos len p s.old buf.old) rec.now result log.new s.new buf.new }
     ensures asks { result.on ≡ to.on_of result }
     ensures held { is_session s.new ≡ true }
@@ -116,15 +115,14 @@ pub fn ioctl_run(
     p: IoctlAt,
     pos: usize,
     len: usize,
-    s: &mut [u8],
-    undo: &mut [u8],
+    s: &mut SessionBytes,
+    undo: &mut UndoBytes,
     rec: &[u32],
     log: &mut [u32],
-    buf: &mut [u8],
+    buf: &mut WorkBuffer,
 ) -> IoctlTurned
     requires s_value { is_session s.old ≡ true }
     requires kept_2 { Kept undo.old }
-    requires buf_len { length buf.old ≡ 2048 }
     requires len_in_bounds { len ≤ length log.old }
     ensures on { (x : Args) (g : stage.Stage) → to.Fits x g n → (e : World) → to.Stood x g e (to.asked_at x g e rec.now log.old pos len p s.old buf.old) rec.now result log.new s.new buf.new }
     ensures asks { (result.on ≡ false) × (result.on ≡ to.on_of result) }

@@ -14,12 +14,12 @@ use requests::Request;
 use requests::numbers::payload_len;
 use slices::fitting;
 use undo::keep;
+use wlan::{UndoBytes, WorkBuffer};
 use work_buffer::{lay_request, put_ioctl_header};
 
 // A reply's n bytes, from offset on, to where the payload was.
-pub fn copy_reply(undo: &mut [u8], buf: &mut [u8], offset: u16, n: u16)
+pub fn copy_reply(undo: &mut UndoBytes, buf: &mut WorkBuffer, offset: u16, n: u16)
     requires kept_2 { Kept undo.old }
-    requires buf_len { length buf.old ≡ 2048 }
     ensures laid { buf.new ≡ to.laid_before (before.Before.Copy (at.copied offset n)) buf.old }
     ensures kept { at.LaidKept undo.old undo.new buf.old buf.new }
 {
@@ -28,9 +28,8 @@ pub fn copy_reply(undo: &mut [u8], buf: &mut [u8], offset: u16, n: u16)
 }
 
 // Keeps a request's place.
-fn keep_request(undo: &mut [u8], buf: &[u8], r: Request, first: &[u8], second: &[u8])
+fn keep_request(undo: &mut UndoBytes, buf: &WorkBuffer, r: Request, first: &[u8], second: &[u8])
     requires kept { Kept undo.old }
-    requires buf_len { length buf.now ≡ 2048 }
     ensures { at.KeptTo undo.old undo.new buf.now (at.request_end r first.now second.now) }
 {
     let n = fitting(2020, 0, payload_len(r, first, second));
@@ -38,9 +37,14 @@ fn keep_request(undo: &mut [u8], buf: &[u8], r: Request, first: &[u8], second: &
 }
 
 // A request's payload alone.
-pub fn lay_payload(undo: &mut [u8], buf: &mut [u8], r: Request, first: &[u8], second: &[u8])
+pub fn lay_payload(
+    undo: &mut UndoBytes,
+    buf: &mut WorkBuffer,
+    r: Request,
+    first: &[u8],
+    second: &[u8],
+)
     requires kept_2 { Kept undo.old }
-    requires buf_len { length buf.old ≡ 2048 }
     ensures laid { (j : job.Job) → buf.new ≡ to.laid_request (args_of j first.now second.now) (put.RequestPut.Payload r) buf.old }
     ensures kept { at.LaidKept undo.old undo.new buf.old buf.new }
 {
@@ -49,9 +53,15 @@ pub fn lay_payload(undo: &mut [u8], buf: &mut [u8], r: Request, first: &[u8], se
 }
 
 // Its payload and its ioctl header.
-pub fn lay_whole(undo: &mut [u8], buf: &mut [u8], r: Request, first: &[u8], second: &[u8], id: u8)
+pub fn lay_whole(
+    undo: &mut UndoBytes,
+    buf: &mut WorkBuffer,
+    r: Request,
+    first: &[u8],
+    second: &[u8],
+    id: u8,
+)
     requires kept_2 { Kept undo.old }
-    requires buf_len { length buf.old ≡ 2048 }
     ensures laid { (j : job.Job) → buf.new ≡ to.laid_request (args_of j first.now second.now) (put.RequestPut.Whole r id) buf.old }
     ensures kept { at.LaidKept undo.old undo.new buf.old buf.new }
 {
@@ -62,15 +72,14 @@ pub fn lay_whole(undo: &mut [u8], buf: &mut [u8], r: Request, first: &[u8], seco
 
 // Its header alone.
 pub fn lay_numbered(
-    undo: &mut [u8],
-    buf: &mut [u8],
+    undo: &mut UndoBytes,
+    buf: &mut WorkBuffer,
     r: Request,
     first: &[u8],
     second: &[u8],
     id: u8,
 )
     requires kept_2 { Kept undo.old }
-    requires buf_len { length buf.old ≡ 2048 }
     ensures laid { (j : job.Job) → buf.new ≡ to.laid_request (args_of j first.now second.now) (put.RequestPut.Numbered r id) buf.old }
     ensures kept { at.LaidKept undo.old undo.new buf.old buf.new }
 {

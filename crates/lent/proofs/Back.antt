@@ -20,7 +20,7 @@ use Rattle.scan_table.proofs.Laws.{laid-back, all_laid}
 use Rattle.lent_calls.specs.declared.LentEnd.{LentEnd}
 use Rattle.lent_calls.specs.Lent.{called_on, with_list}
 
--- what `lent_end` says
+-- what is handed back of a call's end
 abbrev pub Ended : CallEnd → LentEnd → Type 0
 Ended z r = (r.outcome ≡ z.outcome) × ((r.st ≡ z.st) × ((r.count ≡ z.list.count) × (r.len ≡ z.len)))
 

@@ -6,7 +6,7 @@ ghost use Rattle.going.specs.Onward.{end_of};
 ghost use Rattle.scan_table.specs.Table.{list_of};
 ghost use Rattle.lent_calls.specs.Lent.{call_of, has_output, output_of, called_on, with_list};
 
-use lent_calls::{LentEnd, WifiCall, lent_end, list_of, on_list};
+use lent_calls::{LentEnd, WifiCall, on_list};
 use scan_table::table::{list_in, put_list};
 use wlan::{ScanRecord, State};
 
@@ -27,6 +27,6 @@ pub fn wifi_call(
 {
     let l = list_in(table, count);
     let e = on_list(table.len(), c, a, b, st, l, rec, log, buf, out);
-    put_list(table, list_of(e));
-    lent_end(e)
+    put_list(table, e.list);
+    LentEnd::from(e)
 }

@@ -7,7 +7,6 @@ use lib.ListN.{length}
 use borrow.Author.Tests.{eq-eqb, ne_eqb}
 use Rattle.slices.specs.Pick.{pick}
 use Rattle.slices.proofs.Over.{over-nil}
-use Rattle.wlan.specs.declared.Outcome.{Outcome}
 use Rattle.wlan.specs.declared.Refusal.{Refusal}
 use Rattle.definition.specs.Bus.{log_of}
 use Rattle.definition.specs.Prog.{World}
@@ -17,6 +16,7 @@ use Rattle.going.specs.declared.CallEnd.{CallEnd}
 use Rattle.going.specs.Onward.{end_of}
 use Rattle.lent_calls.specs.declared.WifiCall.{WifiCall}
 use Rattle.lent_calls.specs.Lent.{call_of, has_output, output_of, called_on}
+use Rattle.std.specs.Prelude.{Err}
 
 module _ (c : WifiCall) (r : CallEnd) (w : World) (a b rec log log₀ buf out after : List ℕ) where
   -- what is to be shown of a call
@@ -37,7 +37,7 @@ unfolding called_on
 on-32 n k w rec log out h = rw (eq-eqb n 32 h)
 
 pub off-32 : (n : ℕ) (k : Call) (w : World) (rec log out : List ℕ) → (n ≡ 32 → ⊥)
-    → end_of (record { outcome = Outcome.Refused Refusal.BufferLength; st = w.st; list = w.list; len = 0 }) log w.buf out ≡ called_on n k w rec log out
+    → end_of (record { outcome = Err Refusal.BufferLength; st = w.st; list = w.list; len = 0 }) log w.buf out ≡ called_on n k w rec log out
 unfolding called_on shown log_of
 off-32 n k w rec log out h = rw (ne_eqb n 32 h, over-nil log 0, over-nil out 0)
 

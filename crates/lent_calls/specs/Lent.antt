@@ -1,5 +1,5 @@
 -- A call over a lent table of records.
-use Rattle.std.specs.Prelude.{ℕ, Bool, true, false, List, [], eqb, length}
+use Rattle.std.specs.Prelude.{ℕ, Bool, true, false, List, [], eqb}
 use Rattle.slices.specs.Pick.{pick}
 use Rattle.wlan.specs.declared.Refusal.{Refusal}
 use Rattle.wlan.specs.declared.ScanRecord.{ScanRecord}

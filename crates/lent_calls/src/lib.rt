@@ -73,29 +73,22 @@ pub fn on_list(
         return by_value(c, a, b, st, list, rec, log, buf, out);
     }
     CallEnd {
-        outcome: Outcome::Refused(Refusal::BufferLength),
+        outcome: Err(Refusal::BufferLength),
         st: st,
         list: list,
         len: 0,
     }
 }
 
-pub fn list_of(e: CallEnd) -> ScanList
-    ensures { result ≡ e.list }
-{
-    e.list
-}
+impl From<CallEnd> for LentEnd {
+    ghost from_gives = { λ e r. (r.outcome ≡ e.outcome) × ((r.st ≡ e.st) × ((r.count ≡ e.list.count) × (r.len ≡ e.len))) };
 
-pub fn lent_end(e: CallEnd) -> LentEnd
-    ensures { (result.outcome ≡ e.outcome) × ((result.st ≡ e.st) × ((result.count ≡ e.list.count) × (result.len ≡ e.len))) }
-{
-    let outcome = e.outcome;
-    let st = e.st;
-    let list = e.list;
-    LentEnd {
-        outcome: outcome,
-        st: st,
-        count: list.count,
-        len: e.len,
+    fn from(e: CallEnd) -> LentEnd {
+        LentEnd {
+            outcome: e.outcome,
+            st: e.st,
+            count: e.list.count,
+            len: e.len,
+        }
     }
 }

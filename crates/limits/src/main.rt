@@ -7,7 +7,6 @@ use cyw43::fresh::{fresh_list, fresh_state};
 use cyw43::ioctls::up;
 use going::CallEnd;
 use outcomes::numbers::refusal_of;
-use wlan::Sdpcm;
 
 // Document 01's worked example: the request is written, and its reply is read.
 fn recording() -> [u32; 22]
@@ -19,87 +18,60 @@ fn recording() -> [u32; 22]
     ]
 }
 
+// What a log and a work buffer are filled with before a call.
+const WORD: u32 = 0xAAAA_AAAA;
+
+const BYTE: u8 = 0x5A;
+
 fn log_words() -> [u32; 16]
     ensures { 16 ≡ length result }
 {
-    [0xAAAA_AAAA; 16]
+    [WORD; 16]
 }
 
 fn work_bytes() -> [u8; 2049]
     ensures { 2049 ≡ length result }
 {
-    [0x5A; 2049]
+    [BYTE; 2049]
 }
 
-fn print(text: &[u8]) {
-    io::write_all(1, text);
+// How many items are not as they were.
+fn changed<T: PartialEq>(items: &[T], before: &T) -> usize {
+    items.iter().filter(|x| *x != before).count()
 }
 
 fn print_number(text: &[u8], n: u64) {
-    print(text);
+    io::write_all(1, text);
     io::print_decimal(1, n);
 }
 
-fn one_if(b: bool) -> usize
-    ensures { result ≤ 1 }
-{
-    if b { 1 } else { 0 }
-}
-
-// How many bytes are not as they were.
-fn changed_bytes(buf: &[u8]) -> usize {
-    let mut n = 0;
-    let mut i = 0;
-    while i < buf.len() {
-        n += one_if(buf[i] != 0x5A);
-        i += 1;
-    }
-    n
-}
-
-fn changed_words(log: &[u32]) -> usize {
-    let mut n = 0;
-    let mut i = 0;
-    while i < log.len() {
-        n += one_if(log[i] != 0xAAAA_AAAA);
-        i += 1;
-    }
-    n
-}
-
-fn show_state(s: Sdpcm) {
+// Written by the C library's write alone: the standard library's printing stands on more.
+fn show(e: CallEnd, log: &[u32], buf: &[u8]) {
+    let s = e.st.sdpcm;
+    print_number(b": refusal ", refusal_of(e.outcome) as u64);
+    print_number(b", log words ", e.len as u64);
     print_number(b"; sequence ", s.packet_tx_seq as u64);
     print_number(b", credit ", s.last_bus_data_credit as u64);
     print_number(b", flow ", s.wlan_flow_control as u64);
     print_number(b", id ", s.requested_ioctl_id as u64);
-}
-
-fn show(e: CallEnd, log: &[u32], buf: &[u8]) {
-    let outcome = e.outcome;
-    print_number(b": refusal ", refusal_of(outcome) as u64);
-    print_number(b", log words ", e.len as u64);
-    let st = e.st;
-    let s = st.sdpcm;
-    show_state(s);
-    print_number(b"; changed: words of the log ", changed_words(log) as u64);
-    print_number(b", bytes of the buffer ", changed_bytes(buf) as u64);
-    print(b"\n");
+    print_number(b"; changed: words of the log ", changed(log, &WORD) as u64);
+    print_number(b", bytes of the buffer ", changed(buf, &BYTE) as u64);
+    io::write_all(1, b"\n");
 }
 
 // The first n words of the log and the first m bytes of the buffer are lent.
-fn try_up(n: usize, m: usize, log: &mut [u32], buf: &mut [u8])
+fn try_up(n: usize, m: usize, log: &mut [u32], buf: &mut [u8]) -> CallEnd
     requires n_in_bounds { n ≤ length log.old }
     requires m_in_bounds { m ≤ length buf.old }
 {
     let rec = recording();
-    let e = up(
+    up(
         fresh_state(),
         fresh_list(),
         &rec,
         &mut log[..n],
         &mut buf[..m],
-    );
-    show(e, log, buf);
+    )
 }
 
 fn log_of(n: usize)
@@ -108,7 +80,8 @@ fn log_of(n: usize)
     let mut log = log_words();
     let mut buf = work_bytes();
     print_number(b"log of ", n as u64);
-    try_up(n, 2048, &mut log, &mut buf);
+    let e = try_up(n, 2048, &mut log, &mut buf);
+    show(e, &log, &buf);
 }
 
 fn buffer_of(n: usize)
@@ -117,19 +90,15 @@ fn buffer_of(n: usize)
     let mut log = log_words();
     let mut buf = work_bytes();
     print_number(b"buffer of ", n as u64);
-    try_up(16, n, &mut log, &mut buf);
+    let e = try_up(16, n, &mut log, &mut buf);
+    show(e, &log, &buf);
 }
 
 fn main() {
-    log_of(0);
-    log_of(1);
-    log_of(2);
-    log_of(5);
-    log_of(8);
-    log_of(14);
-    log_of(15);
-    buffer_of(0);
-    buffer_of(2047);
-    buffer_of(2048);
-    buffer_of(2049);
+    for n in [0, 1, 2, 5, 8, 14, 15] {
+        log_of(n);
+    }
+    for n in [0, 2047, 2048, 2049] {
+        buffer_of(n);
+    }
 }

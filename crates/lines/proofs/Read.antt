@@ -1,8 +1,8 @@
--- What was read is within its limits, and is what `next_call` finds.
+-- What was read is what `next_call` finds.
 use mathlib.Core.Path.{◌≡◌, refl, sym}
 use mathlib.Core.Bool.{Bool, true, false, ◌&&◌, not}
 use mathlib.Core.List.{List, ◌∷◌, ◌++◌}
-use Prim.Native.Nat.{ℕ, ◌+◌, ◌-◌, ◌≤◌, ◌<◌}
+use Prim.Native.Nat.{ℕ, ◌+◌, ◌-◌}
 use native.Mathlib.Omega.{arith}
 use lib.Dec.{ltb, leb, eqb}
 use lib.ListN.{length, take, drop, get_or, length-append, length-take}
@@ -12,26 +12,7 @@ use Rattle.slices.specs.Pick.{pick}
 use Rattle.slices.specs.Le.{le32_at, words_for, bytes_of}
 use Rattle.slices.proofs.Le.{length-bytes_of}
 use Rattle.definition.specs.Player.{bad, one, next_call}
-use Rattle.lines.specs.declared.input.Count.{Count}
-use Rattle.lines.specs.declared.input.Next.{Next}
-use Rattle.lines.specs.Input.{is_call, output_length, Within, Fits}
-
-pub both : (s t : Bool) → (s && t) ≡ true → (s ≡ true) × (t ≡ true)
-both true true h = (refl, refl)
-both true false h = (refl, h)
-both false t h = absurd (let z : ◌≡◌ {A = ℕ} 0 1 = cc in omega arith)
-
-pub call-above : (h : ℕ) → is_call h ≡ true → 0xF0000000 < h
-call-above h e = ltb-true 0xF0000000 h (both (ltb 0xF0000000 h) (leb h 0xF000000E) e).0
-
-pub within : (limit n : ℕ) (r : Count) → r ≡ Count.Is n → Within limit r → n ≤ limit
-within limit n r e h = rw e at h
-
-pub fits : (call count words : ℕ) (r : Next) (a : List ℕ) → r ≡ Next.One call count words → Fits r a
-    → (count ≤ 2048) × (words ≤ 4096) × (output_length call (take count a) ≤ 2048)
-fits call count words r a e h = rw e at h
-
--- ---- the tests, in the order of reading
+use Rattle.lines.specs.Input.{is_call, output_length}
 
 -- `2048 < v` fails where `v <= 2048` holds
 above-by : (v : ℕ) (t : Bool) → ltb 2048 v ≡ t → not t ≡ leb v 2048

@@ -148,7 +148,7 @@ length-words (w ∷ ws) = omega (arith, length-words ws, length-append (hex w ++
 
 -- ---- a call's lines
 
-taken : (len : ℕ) (log : List ℕ) (n : ℕ) → n ≡ min len (length log - 0) → take n log ≡ take len log
+taken : (len : ℕ) (log : List ℕ) (n : ℕ) → n ≡ min len (length log) → take n log ≡ take len log
 taken len log n e = sym (take-take n len log (omega arith)) ∙ take_all n (take len log) (omega (arith, length-take len log))
 
 take-over : (d s : List ℕ) → length s ≤ length d → take (length s) (over d 0 s) ≡ s
@@ -156,7 +156,7 @@ take-over d s h = rw (over-parts d 0 s (omega arith)) (take-append_seam s _)
 
 -- a row and words that were laid down are the line's text; as much of the log is there as the length says, or all of it
 pub lines-laid : (d e f log ns : List ℕ) (n len at k : ℕ) → e ≡ over d 0 (row_of ns) → at ≡ length (row_of ns)
-    → n ≡ min len (length log - 0) → f ≡ over e at (words_of (take n log)) → k ≡ at + 9 * length (take n log) → k ≤ length d
+    → n ≡ min len (length log) → f ≡ over e at (words_of (take n log)) → k ≡ at + 9 * length (take n log) → k ≤ length d
     → take k f ≡ text_of (line ns (take len log))
 unfolding text_of
 lines-laid d e f log ns n len at k ee ea en ef ek l =

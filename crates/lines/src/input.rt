@@ -1,29 +1,27 @@
 // The player's input: words of four le bytes.
-ghost use Rattle.std.specs.Prelude.{◌≡◌, ◌≤◌, length};
+ghost use Rattle.std.specs.Prelude.{◌≡◌, ◌≤◌, length, IfOk, IfSome};
 ghost use Rattle.lines.specs.Input.{is_call, output_length, Within, Fits};
 
-#[derive(Clone, Copy)]
-pub enum Word {
-    // No byte is left.
-    End,
-    // One to three bytes are left.
+use crate::room::{ArgumentBytes, RecordingWords};
+
+// Why what was read is no call.
+#[derive(Clone, Copy, Debug, PartialEq, Eq)]
+pub enum InputError {
+    // The input ends before all that it announced.
     Cut,
-    Value(u32),
+    // A count or an output is above its limit.
+    TooLong,
+    // A call's first word is none of those of the fourteen.
+    NoCall,
 }
 
-// A count within its limit.
+// A call that was read.
 #[derive(Clone, Copy)]
-enum Count {
-    Bad,
-    Is(usize),
-}
-
-#[derive(Clone, Copy)]
-pub enum Next {
-    Nothing,
-    Bad,
-    // A call's number, how many argument bytes it has, and how many words its recording has.
-    One(u32, usize, usize),
+pub struct CallInput<'a> {
+    // From 1 to 14.
+    pub call: u32,
+    pub args: &'a [u8],
+    pub rec: &'a [u32],
 }
 
 // The first word of a call from 1 to 14.
@@ -44,40 +42,38 @@ pub fn output_length(call: u32, args: &[u8]) -> usize
     }
 }
 
-pub fn read_word() -> Word {
-    let mut b = [0u8; 4];
-    let n = io::read_full(0, &mut b);
-    if n == 0 {
-        Word::End
-    } else if n < 4 {
-        Word::Cut
-    } else {
-        Word::Value(words::get_le32(&b, 0))
+// The next word, if the input has not ended before it.
+pub fn read_word() -> Result<Option<u32>, InputError> {
+    let mut bytes = [0u8; 4];
+    match io::read_full(0, &mut bytes) {
+        0 => Ok(None),
+        4 => Ok(Some(u32::from_le_bytes(bytes))),
+        _ => Err(InputError::Cut),
     }
 }
 
-fn read_count(limit: u32) -> Count
+fn read_count(limit: u32) -> Result<usize, InputError>
     ensures { Within limit result }
 {
-    let w = read_word();
-    match w {
-        Word::End => Count::Bad,
-        Word::Cut => Count::Bad,
-        Word::Value(n) => if n <= limit {
-            Count::Is(n as usize)
-        } else {
-            Count::Bad
-        },
+    let n = read_word()?.ok_or(InputError::Cut)?;
+    if n <= limit {
+        Ok(n as usize)
+    } else {
+        Err(InputError::TooLong)
     }
 }
 
-// Fills b, unless the input is cut short.
-fn read_bytes(b: &mut [u8]) -> bool {
-    io::read_full(0, b) == b.len()
+// Fills b.
+fn read_bytes(b: &mut [u8]) -> Result<(), InputError> {
+    if io::read_full(0, b) == b.len() {
+        Ok(())
+    } else {
+        Err(InputError::Cut)
+    }
 }
 
 // The same for words; bytes: room for theirs.
-fn read_packed(words: &mut [u32], bytes: &mut [u8]) -> bool {
+fn read_packed(words: &mut [u32], bytes: &mut [u8]) -> Result<(), InputError> {
     let whole = read_bytes(bytes);
     packing::pack(words, 0, bytes);
     whole
@@ -90,7 +86,7 @@ fn recording_bytes() -> [u8; 16384]
     [0; 16384]
 }
 
-pub fn read_words(words: &mut [u32]) -> bool
+pub fn read_words(words: &mut [u32]) -> Result<(), InputError>
     requires { length words.old ≤ 4096 }
 {
     let mut bytes = recording_bytes();
@@ -98,68 +94,55 @@ pub fn read_words(words: &mut [u32]) -> bool
     read_packed(words, &mut bytes[..4 * n])
 }
 
-// A call's argument byte count, and the bytes, padded to words.
-fn read_arguments(args: &mut [u8]) -> Count
-    requires { length args.old ≡ 2048 }
+// A call's argument bytes, which the input pads to words.
+fn read_arguments(args: &mut ArgumentBytes) -> Result<usize, InputError>
     ensures { Within 2048 result }
 {
-    let Count::Is(n) = read_count(2048) else {
-        return Count::Bad;
-    };
-    if read_bytes(&mut args[..(n + 3) / 4 * 4]) {
-        Count::Is(n)
-    } else {
-        Count::Bad
-    }
+    let n = read_count(2048)?;
+    read_bytes(&mut args[..n.div_ceil(4) * 4])?;
+    Ok(n)
 }
 
-// A recording's length, and its words.
-fn read_recording(rec: &mut [u32]) -> Count
-    requires { length rec.old ≡ 4096 }
+// A recording's words.
+fn read_recording(rec: &mut RecordingWords) -> Result<usize, InputError>
     ensures { Within 4096 result }
 {
-    let Count::Is(n) = read_count(4096) else {
-        return Count::Bad;
-    };
-    if read_words(&mut rec[..n]) {
-        Count::Is(n)
-    } else {
-        Count::Bad
-    }
+    let n = read_count(4096)?;
+    read_words(&mut rec[..n])?;
+    Ok(n)
 }
 
 // What follows a call's first word.
-fn read_rest(call: u32, args: &mut [u8], rec: &mut [u32]) -> Next
-    requires args_len { length args.old ≡ 2048 }
-    requires rec_len { length rec.old ≡ 4096 }
-    ensures { Fits result args.new }
+fn read_rest<'a>(
+    call: u32,
+    args: &'a mut ArgumentBytes,
+    rec: &'a mut RecordingWords,
+) -> Result<CallInput<'a>, InputError>
+    ensures { IfOk result Fits }
 {
-    let Count::Is(count) = read_arguments(args) else {
-        return Next::Bad;
-    };
-    let Count::Is(words) = read_recording(rec) else {
-        return Next::Bad;
-    };
-    if output_length(call, &args[..count]) <= 2048 {
-        Next::One(call, count, words)
+    let count = read_arguments(args)?;
+    let words = read_recording(rec)?;
+    let args = &args[..count];
+    let rec = &rec[..words];
+    if output_length(call, args) <= 2048 {
+        Ok(CallInput { call, args, rec })
     } else {
-        Next::Bad
+        Err(InputError::TooLong)
     }
 }
 
-pub fn read_call(args: &mut [u8], rec: &mut [u32]) -> Next
-    requires args_len { length args.old ≡ 2048 }
-    requires rec_len { length rec.old ≡ 4096 }
-    ensures { Fits result args.new }
+pub fn read_call<'a>(
+    args: &'a mut ArgumentBytes,
+    rec: &'a mut RecordingWords,
+) -> Result<Option<CallInput<'a>>, InputError>
+    ensures { IfOk result (λ c. IfSome c Fits) }
 {
-    let w = read_word();
-    match w {
-        Word::End => Next::Nothing,
-        Word::Cut => Next::Bad,
-        Word::Value(h) => if is_call(h) {
-            read_rest(h - 0xF0000000, args, rec)
-        } else {
-            Next::Bad
-        },
+    let Some(h) = read_word()? else {
+        return Ok(None);
+    };
+    if is_call(h) {
+        Ok(Some(read_rest(h - 0xF0000000, args, rec)?))
+    } else {
+        Err(InputError::NoCall)
     }
 }

@@ -1,6 +1,10 @@
 // Room for what a call is played with.
 ghost use Rattle.std.specs.Prelude.{◌≡◌, length, replicate};
 
+pub type ArgumentBytes = [u8; 2048];
+
+pub type RecordingWords = [u32; 4096];
+
 // An empty log.
 pub fn log_words() -> [u32; 8192]
     ensures value { result ≡ replicate 8192 0 }
@@ -18,7 +22,7 @@ pub fn zero_bytes() -> [u8; 2048]
 }
 
 // Room for a recording.
-pub fn recording_words() -> [u32; 4096]
+pub fn recording_words() -> RecordingWords
     ensures { 4096 ≡ length result }
 {
     [0; 4096]

@@ -10,9 +10,10 @@ ghost use Rattle.lines.specs.Text.{decimal, hex, row_of, words_of, text_of, Prin
 use places_read::{sdpcm_at, wifi_at};
 use run_end::{RunEnd, refusal_number};
 use state_bytes::numbers::state_number;
+use wlan::SessionBytes;
 
 // Call, refusal, value, state, sequence, credit, flow, id, log words.
-fn numbers(call: u32, r: RunEnd, s: &[u8]) -> [u64; 9]
+fn numbers(call: u32, r: RunEnd, s: &SessionBytes) -> [u64; 9]
     requires { is_session s.now ≡ true }
     ensures { (e : End) (log : List ℕ) → Printed e log s.now r → result ≡ call ∷ Player·numbers e }
 {
@@ -41,21 +42,18 @@ fn put_number(text: &mut [u8], at: usize, n: u64, end: u8) -> usize
     let mut digits = [0u8; 20];
     let k = io::decimal(n, &mut digits);
     slices::copy_over(text, at, &digits[..k]);
-    put_words::put_byte(text, at + k, end);
+    put_words::put(text, at + k, end);
     at + k + 1
 }
 
 // The numbers, one space between, on a line.
-fn put_numbers(text: &mut [u8], numbers: &[u64]) -> usize
-    requires { length numbers.now ≡ 9 }
+fn put_numbers(text: &mut [u8], numbers: &[u64; 9]) -> usize
     ensures text_after { text.new ≡ over text.old 0 (row_of numbers.now) }
     ensures value { (result ≡ length (row_of numbers.now)) × (result ≤ 189) }
 {
     let mut at = 0;
-    let mut i = 0;
-    while i < 8 {
-        at = put_number(text, at, numbers[i], b' ');
-        i += 1;
+    for &n in &numbers[..8] {
+        at = put_number(text, at, n, b' ');
     }
     put_number(text, at, numbers[8], b'\n')
 }
@@ -68,7 +66,7 @@ fn put_word(text: &mut [u8], at: usize, w: u32)
     let mut digits = [0u8; 16];
     let k = io::hex(w as u64, 8, &mut digits);
     slices::copy_over(text, at, &digits[..k]);
-    put_words::put_byte(text, at + k, b'\n');
+    put_words::put(text, at + k, b'\n');
 }
 
 fn put_words(text: &mut [u8], at: usize, log: &[u32]) -> usize
@@ -77,16 +75,16 @@ fn put_words(text: &mut [u8], at: usize, log: &[u32]) -> usize
     ensures text_after { text.new ≡ over text.old at (words_of log.now) }
     ensures value { result ≡ at + 9 * length log.now }
 {
-    let mut i = 0;
-    while i < log.len() {
-        put_word(text, at + 9 * i, log[i]);
-        i += 1;
+    let mut end = at;
+    for &w in log {
+        put_word(text, end, w);
+        end += 9;
     }
-    at + 9 * log.len()
+    end
 }
 
 // The lines of a call that ended with r and left the session s; gives their length.
-pub fn put_lines(text: &mut [u8], call: u32, r: RunEnd, s: &[u8], log: &[u32]) -> usize
+pub fn put_lines(text: &mut [u8], call: u32, r: RunEnd, s: &SessionBytes, log: &[u32]) -> usize
     requires s_value { is_session s.now ≡ true }
     requires in_bounds { 73917 ≤ length text.old }
     requires log_len_bound { length log.now ≤ 8192 }
@@ -95,6 +93,6 @@ pub fn put_lines(text: &mut [u8], call: u32, r: RunEnd, s: &[u8], log: &[u32]) -
 {
     let ns = numbers(call, r, s);
     let at = put_numbers(text, &ns);
-    let n = slices::fitting(log.len(), 0, r.len);
+    let n = r.len.min(log.len());
     put_words(text, at, &log[..n])
 }

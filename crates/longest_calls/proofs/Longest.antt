@@ -10,7 +10,6 @@ use Rattle.slices.proofs.Over.{get_or-over-in}
 use Rattle.slices.proofs.Pick.{by-pick}
 use Rattle.wlan.specs.Outcome.{refusal_of, value_of}
 use Rattle.wlan.specs.declared.DriverError.{DriverError}
-use Rattle.wlan.specs.declared.Outcome.{Outcome}
 use Rattle.wlan.specs.declared.Refusal.{Refusal}
 use Rattle.definition.specs.Bus.{Bytes}
 use Rattle.definition.specs.Calls.{Call}
@@ -21,9 +20,11 @@ use Rattle.session_bytes.specs.Session.{is_session}
 use Rattle.entry.specs.Entry.{Handed, handed}
 use Rattle.entering.specs.Entering.{entered}
 use Rattle.longest_calls.specs.CallsLongest.{EntryNeverFull, EntryNoMore}
+use Rattle.std.specs.Prelude.{Ok, Err}
+use Rattle.wlan.specs.Results.{Outcome}
 
 -- 12 is the number of one refusal
-error-not-12 : (e : DriverError) → refusal_of (Outcome.Refused (Refusal.Driver e)) ≡ 12 → ⊥
+error-not-12 : (e : DriverError) → refusal_of (Err (Refusal.Driver e)) ≡ 12 → ⊥
 error-not-12 DriverError.InvalidArg h = omega (arith, h)
 error-not-12 DriverError.Timeout h = omega (arith, h)
 error-not-12 DriverError.Io h = omega (arith, h)
@@ -34,13 +35,13 @@ error-not-12 (DriverError.Fault p) h = omega (arith, h)
 error-not-12 DriverError.EventHeader h = omega (arith, h)
 error-not-12 DriverError.PastBuffer h = omega (arith, h)
 
-full_is : (o : Outcome) → refusal_of o ≡ 12 → o ≡ Outcome.Refused Refusal.LogFull
-full_is (Outcome.Ok x) h = absurd (omega (arith, h))
-full_is (Outcome.Refused (Refusal.Driver e)) h = absurd (error-not-12 e h)
-full_is (Outcome.Refused Refusal.Unrecorded) h = absurd (omega (arith, h))
-full_is (Outcome.Refused Refusal.WrongAnswer) h = absurd (omega (arith, h))
-full_is (Outcome.Refused Refusal.LogFull) h = refl
-full_is (Outcome.Refused Refusal.BufferLength) h = absurd (omega (arith, h))
+full_is : (o : Outcome) → refusal_of o ≡ 12 → o ≡ Err Refusal.LogFull
+full_is (Ok x) h = absurd (omega (arith, h))
+full_is (Err (Refusal.Driver e)) h = absurd (error-not-12 e h)
+full_is (Err Refusal.Unrecorded) h = absurd (omega (arith, h))
+full_is (Err Refusal.WrongAnswer) h = absurd (omega (arith, h))
+full_is (Err Refusal.LogFull) h = refl
+full_is (Err Refusal.BufferLength) h = absurd (omega (arith, h))
 
 -- ---- what the definition says of the entry
 

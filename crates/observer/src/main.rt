@@ -2,16 +2,18 @@
 // then all else that it left.
 #![tactic(auto)]
 
-// Turns are counted down from a number that no run uses up.
+use wlan::{SESSION_LEN, UNDO_LEN};
+
+// Turns are counted up to a number that no run reaches.
 fn main() {
-    let mut s = [0u8; 1393];
-    let mut undo = [0u8; 3444];
+    let mut s = [0u8; SESSION_LEN];
+    let mut undo = [0u8; UNDO_LEN];
     let mut buf = lines::room::zero_bytes();
     let mut text = lines::room::line_bytes();
-    let mut going = session::fresh(&mut s);
-    let mut turns = u64::MAX;
-    while going && turns > 0 {
-        going = observed::turn(&mut s, &mut undo, &mut buf, &mut text);
-        turns -= 1;
+    session::fresh(&mut s);
+    for _ in 0..u64::MAX {
+        if !observed::turn(&mut s, &mut undo, &mut buf, &mut text) {
+            break;
+        }
     }
 }

@@ -38,8 +38,8 @@ pub fn refusal_of(o: Outcome) -> u32
     ensures { result ≡ to.refusal_of o }
 {
     match o {
-        Outcome::Ok(_) => 0,
-        Outcome::Refused(r) => number_of(r),
+        Ok(_) => 0,
+        Err(r) => number_of(r),
     }
 }
 
@@ -99,7 +99,7 @@ pub fn value_of(o: Outcome) -> u64
     ensures { result ≡ to.value_of o }
 {
     match o {
-        Outcome::Ok(x) => success_value(x),
-        Outcome::Refused(r) => refusal_value(r),
+        Ok(x) => success_value(x),
+        Err(r) => refusal_value(r),
     }
 }

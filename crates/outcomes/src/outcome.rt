@@ -1,12 +1,12 @@
 // The outcome that the numbers tell, for who takes it by value.
-ghost use Rattle.std.specs.Prelude.{◌≡◌, ◌<◌};
-ghost use Rattle.wlan.specs.declared.Outcome as told;
+ghost use Rattle.std.specs.Prelude.{◌≡◌, ◌<◌, Ok};
 ghost use Rattle.run_end.specs.RunEnd.{Tells};
 ghost use Rattle.outcomes.specs.Outcomes as to;
+ghost use Rattle.wlan.specs.Results.{Outcome};
 
 use connect_failure::failure_of;
 use run_end::{EndKind, RunEnd};
-use wlan::{ConnectFailure, DriverError, Outcome, Refusal, Success, WlanPollResult};
+use wlan::{DriverError, Outcome, Refusal, Success, WifiConnectFailure, WlanPollResult};
 
 fn narrow8(x: u64) -> u8
     ensures { x < 256 → result ≡ x }
@@ -26,33 +26,33 @@ fn narrow32(x: u64) -> u32
     (x % 4294967296) as u32
 }
 
-fn poll_by(v: u64, f: ConnectFailure) -> WlanPollResult
+fn poll_by(v: u64, f: Option<WifiConnectFailure>) -> WlanPollResult
     ensures { result ≡ to.poll_by v f }
 {
     match f {
-        ConnectFailure::None => {
+        None => {
             if v == 0 {
                 return WlanPollResult::None;
             }
             WlanPollResult::Rx
         }
-        ConnectFailure::Some(x) => WlanPollResult::ConnectFailed(x),
+        Some(x) => WlanPollResult::ConnectFailed(x),
     }
 }
 
 fn ok(x: Success) -> Outcome
-    ensures { result ≡ told.Outcome.Ok x }
+    ensures { result ≡ Ok x }
 {
-    Outcome::Ok(x)
+    Ok(x)
 }
 
 fn error(e: DriverError) -> Outcome
     ensures { result ≡ to.error e }
 {
-    Outcome::Refused(Refusal::Driver(e))
+    Err(Refusal::Driver(e))
 }
 
-fn outcome_by(k: EndKind, v: u64, f: ConnectFailure) -> Outcome
+fn outcome_by(k: EndKind, v: u64, f: Option<WifiConnectFailure>) -> Outcome
     ensures { to.Small k v → result ≡ to.outcome_by k v f }
 {
     match k {
@@ -70,15 +70,15 @@ fn outcome_by(k: EndKind, v: u64, f: ConnectFailure) -> Outcome
         EndKind::Fault => error(DriverError::Fault(narrow8(v))),
         EndKind::EventHeader => error(DriverError::EventHeader),
         EndKind::PastBuffer => error(DriverError::PastBuffer),
-        EndKind::Unrecorded => Outcome::Refused(Refusal::Unrecorded),
-        EndKind::WrongAnswer => Outcome::Refused(Refusal::WrongAnswer),
-        EndKind::LogFull => Outcome::Refused(Refusal::LogFull),
-        EndKind::BufferLength => Outcome::Refused(Refusal::BufferLength),
+        EndKind::Unrecorded => Err(Refusal::Unrecorded),
+        EndKind::WrongAnswer => Err(Refusal::WrongAnswer),
+        EndKind::LogFull => Err(Refusal::LogFull),
+        EndKind::BufferLength => Err(Refusal::BufferLength),
     }
 }
 
 pub fn outcome_of(r: RunEnd) -> Outcome
-    ensures { (o : told.Outcome) → Tells r o → result ≡ o }
+    ensures { (o : Outcome) → Tells r o → result ≡ o }
 {
     let k = r.kind;
     let f = r.failure;

@@ -1,16 +1,14 @@
 -- Words by eights.
 use mathlib.Core.Path.{◌≡◌, refl, ap}
 use mathlib.Core.List.{List, [], ◌∷◌, ◌++◌}
-use Prim.Native.Nat.{ℕ, zero, suc, ◌+◌, ◌*◌, ◌-◌, ◌/◌, ◌%◌, ◌≤◌, ◌<◌}
+use Prim.Native.Nat.{ℕ, zero, suc, ◌+◌, ◌*◌, ◌≤◌}
 use native.Mathlib.Nat.{add-suc}
 use native.Mathlib.Numerals.{add-one}
 use native.Mathlib.Omega.{arith}
-use lib.ListN.{length, take, drop, get_or, length-take, length-drop}
-use lib.Seq.{take-add, drop-cons, get_or-drop}
-use Rattle.slices.specs.Over.{over}
-use Rattle.slices.specs.Le.{le32, bytes_of}
-use Rattle.slices.proofs.Over.{over-append, Run, run_more}
-use Rattle.slices.proofs.Le.{length-bytes_of, bytes_of-append, bytes_of-more}
+use lib.ListN.{length, take, drop, get_or}
+use lib.Seq.{take-add, drop-cons}
+use Rattle.slices.specs.Le.{bytes_of}
+use Rattle.slices.proofs.Le.{bytes_of-append}
 
 -- the elements at k + j, k + j + 1, .., j a numeral: m of them
 abbrev pub from : ℕ → List ℕ → ℕ → ℕ → List ℕ
@@ -34,19 +32,3 @@ bytes-parts ws s r n e = rw (e, take-add, bytes_of-append)
 -- eight words more
 pub eights-more : (ws : List ℕ) (i : ℕ) → bytes_of (take (8 * (i + 1)) ws) ≡ bytes_of (take (8 * i) ws) ++ bytes_of (take 8 (drop (8 * i) ws))
 eights-more ws i = bytes-parts ws (8 * i) 8 (8 * (i + 1)) (omega arith)
-
--- all eights, then what is left
-pub eights-rest : (d ws : List ℕ) (n : ℕ) → n ≤ length ws
-    → over (over d 0 (bytes_of (take (8 * (n / 8)) ws))) (4 * (n - n % 8)) (bytes_of (take (n % 8) (drop (n - n % 8) ws))) ≡ over d 0 (bytes_of (take n ws))
-eights-rest d ws n h =
-    let s : 4 * (n - n % 8) ≡ 0 + length (bytes_of (take (8 * (n / 8)) ws)) = omega (arith, length-bytes_of (take (8 * (n / 8)) ws), length-take (8 * (n / 8)) ws) in
-    let e : n - n % 8 ≡ 8 * (n / 8) = omega arith in
-    rw (s, over-append, e, ← bytes-parts ws (8 * (n / 8)) (n % 8) n (omega arith))
-
--- one word more of what is left from s on
-pub left-more : {d₀ d e : List ℕ} (ws : List ℕ) (s i : ℕ) → s + i < length ws → Run d₀ (4 * s) (bytes_of (take i (drop s ws))) d
-    → e ≡ over d (4 * (s + i)) (le32 (get_or ws (s + i) 0)) → Run d₀ (4 * s) (bytes_of (take (i + 1) (drop s ws))) e
-left-more ws s i h r p =
-    let l = drop s ws in
-    let k : i < length l = omega (arith, length-drop s ws) in
-    rw (bytes_of-more l i k, get_or-drop) (run_more _ r (omega (arith, length-bytes_of (take i l), length-take i l)) p)

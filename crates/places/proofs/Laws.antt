@@ -1,20 +1,15 @@
 -- One part changed: the others are read as before.
 use mathlib.Core.Path.{◌≡◌, refl, sym, ap, ◌∙◌}
-use mathlib.Core.Bool.{true}
+use mathlib.Core.Bool.{Bool, true, false}
+use mir.Val.{bool_byte}
 use mathlib.Core.List.{List, [], ◌∷◌, ◌++◌}
-use Prim.Native.Nat.{ℕ, ◌+◌, ◌*◌, ◌<◌}
-use native.Mathlib.Omega.{arith}
-use lib.ListN.{length, get_or, take, drop}
+use Prim.Native.Nat.{ℕ, ◌<◌}
+use lib.ListN.{take, drop}
 use Rattle.slices.specs.Over.{over}
-use Rattle.slices.specs.Le.{le16, le32, le16_at, le32_at}
-use Rattle.wlan.specs.declared.ConnectFailure.{ConnectFailure}
 use Rattle.wlan.specs.declared.Link.{Link}
 use Rattle.wlan.specs.declared.Pending.{Pending}
-use Rattle.wlan.specs.declared.PendingResp.{PendingResp}
-use Rattle.wlan.specs.declared.PendingRx.{PendingRx}
 use Rattle.wlan.specs.declared.ScanMarks.{ScanMarks}
 use Rattle.wlan.specs.declared.Sdpcm.{Sdpcm}
-use Rattle.wlan.specs.declared.StartedTick.{StartedTick}
 use Rattle.wlan.specs.declared.State.{State}
 use Rattle.wlan.specs.declared.WifiAuth.{WifiAuth}
 use Rattle.wlan.specs.declared.WifiState.{WifiState}
@@ -27,7 +22,7 @@ use Rattle.state_bytes.specs.declared.parts.TickParts.{TickParts}
 use Rattle.state_bytes.specs.Numbers.{bit, auth_number}
 use Rattle.connect_failure.specs.Parts.{failure_parts, failure_of}
 use Rattle.state_bytes.specs.Parts.{reply_parts, reply_of, frame_parts, frame_of, tick_parts, tick_of}
-use Rattle.state_bytes.specs.StateBytes.{front_bytes, reply_bytes, frame_bytes, pending_bytes, failure_bytes, tick_bytes, link_bytes, state_bytes, state_in, sdpcm_in, marks_in, pending_in, reply_in, frame_in, link_in, failure_in, tick_in}
+use Rattle.state_bytes.specs.StateBytes.{front_bytes, reply_bytes, frame_bytes, pending_bytes, failure_bytes, tick_bytes, link_bytes, state_bytes, state_in, pending_in, reply_in, frame_in, link_in, failure_in, tick_in}
 use Rattle.connect_failure.proofs.Laws.{failure-back}
 use Rattle.state_bytes.proofs.Laws as law
 use Rattle.session_bytes.specs.declared.session.Session.{Session}
@@ -35,6 +30,16 @@ use Rattle.session_bytes.specs.ListBytes.{list_bytes}
 use Rattle.session_bytes.specs.Session.{session_bytes, session_in, is_session, with_state}
 use Rattle.session_bytes.proofs.Laws as ses
 use Rattle.places.specs.Places as to
+use Rattle.std.specs.Prelude.{Option, ℕ}
+use Rattle.wlan.specs.declared.WifiConnectFailure.{WifiConnectFailure}
+use Rattle.wlan.specs.declared.PendingIoctlResp.{PendingIoctlResp}
+use Rattle.wlan.specs.declared.PendingBuf.{PendingBuf}
+
+-- what `u8::from` gives
+pub mark-is : (b : Bool) → bool_byte b ≡ bit b
+unfolding bit
+mark-is true = refl
+mark-is false = refl
 
 pub holds-bytes : {b : List ℕ} {s : Session} → to.Holds b s → b ≡ session_bytes s
 holds-bytes {b} {s} h = sym (ses.session-form b h.known) ∙ ap session_bytes h.back
@@ -92,14 +97,14 @@ module _ (b : List ℕ) (h : is_session b ≡ true) where
   unfolding pending_bytes pending_in reply_in
   reply-kept f = ap (λ (p : Pending). p.ioctl_resp) pending-kept
 
-  pub reply-put : {d : List ℕ} (x : PendingResp) (a : ReplyParts) → a ≡ reply_parts x → reply_of a ≡ x → a.offset < 65536 → a.len < 65536 → a.status < 4294967296
+  pub reply-put : {d : List ℕ} (x : Option PendingIoctlResp) (a : ReplyParts) → a ≡ reply_parts x → reply_of a ≡ x → a.offset < 65536 → a.len < 65536 → a.status < 4294967296
       → d ≡ over b 7 (reply_bytes a) → to.Holds d (to.reply_put b x)
   unfolding session_bytes state_bytes front_bytes pending_bytes pending_in link_bytes over
   reply-put x a ea ba i j k e =
       holds (with_pending s (set_reply s.pending x)) (rw (← ea) (over-form 7 _ e))
       (law.state-back (with_pending s (set_reply s.pending x)) (rw (← ea, law.reply-in-is a (frame_bytes (frame_parts s.pending.rx)) i j k, ba, frame-kept a)) link-kept)
 
-  pub frame-put : {d : List ℕ} (x : PendingRx) (f : FrameParts) → f ≡ frame_parts x → f.offset < 65536 → f.len < 65536
+  pub frame-put : {d : List ℕ} (x : Option PendingBuf) (f : FrameParts) → f ≡ frame_parts x → f.offset < 65536 → f.len < 65536
       → d ≡ over b 16 (frame_bytes f) → to.Holds d (to.frame_put b x)
   unfolding session_bytes state_bytes front_bytes pending_bytes pending_in link_bytes over
   frame-put x f ef i j e =
@@ -124,14 +129,14 @@ module _ (b : List ℕ) (h : is_session b ≡ true) where
   unfolding session_bytes state_bytes front_bytes pending_bytes link_bytes list_bytes over
   auth-put x e = holds (with_link s (set_auth s.link x)) (over-form 22 _ e) (law.state-back (with_link s (set_auth s.link x)) pending-kept (link-back (set_auth s.link x) (failure-kept _ _ _) (tick-kept _ _ _)))
 
-  pub failure-put : {d : List ℕ} (x : ConnectFailure) (f : FailureParts) → f ≡ failure_parts x → f.status < 4294967296 → f.reason < 4294967296
+  pub failure-put : {d : List ℕ} (x : Option WifiConnectFailure) (f : FailureParts) → f ≡ failure_parts x → f.status < 4294967296 → f.reason < 4294967296
       → d ≡ over b 23 (failure_bytes f) → to.Holds d (to.failure_put b x)
   unfolding session_bytes state_bytes front_bytes pending_bytes link_bytes list_bytes over
   failure-put x f ef i j e =
       holds (with_link s (set_failure s.link x)) (rw (← ef) (over-form 23 _ e))
       (law.state-back (with_link s (set_failure s.link x)) pending-kept (link-back (set_failure s.link x) (rw (← ef, law.failure-in-is _ _ f _ i j, ef, failure-back x)) (tick-kept _ _ _)))
 
-  pub tick-put : {d : List ℕ} (x : StartedTick) (t : TickParts) → t ≡ tick_parts x → t.tick < 18446744073709551616 → d ≡ over b 32 (tick_bytes t) → to.Holds d (to.tick_put b x)
+  pub tick-put : {d : List ℕ} (x : Option ℕ) (t : TickParts) → t ≡ tick_parts x → t.tick < 18446744073709551616 → d ≡ over b 32 (tick_bytes t) → to.Holds d (to.tick_put b x)
   unfolding session_bytes state_bytes front_bytes pending_bytes link_bytes list_bytes over
   tick-put x t et i e =
       holds (with_link s (set_tick s.link x)) (rw (← et) (over-form 32 _ e))

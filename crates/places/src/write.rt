@@ -5,133 +5,94 @@ ghost use Rattle.places.specs.Places as to;
 
 use connect_failure::failure_parts;
 use session_bytes::list::put_whole;
-use state_bytes::numbers::{auth_number, bit, state_number};
+use state_bytes::numbers::{auth_number, state_number};
 use state_bytes::parts::{frame_parts, reply_parts, tick_parts};
 use wlan::{
-    ConnectFailure, Link, PendingResp, PendingRx, ScanMarks, Sdpcm, StartedTick, WifiAuth,
-    WifiState,
+    Link, PendingBuf, PendingIoctlResp, ScanMarks, Sdpcm, SessionBytes, WifiAuth,
+    WifiConnectFailure, WifiState,
 };
 
-pub fn put_sdpcm(s: &mut [u8], x: Sdpcm)
+pub fn put_sdpcm(s: &mut SessionBytes, x: Sdpcm)
     requires { is_session s.old ≡ true }
     ensures { to.Holds s.new (to.sdpcm_put s.old x) }
 {
-    let b = [
+    let bytes = [
         x.packet_tx_seq,
         x.last_bus_data_credit,
         x.wlan_flow_control,
         x.requested_ioctl_id,
-        bit(x.had_successful_packet),
+        u8::from(x.had_successful_packet),
     ];
-    put_whole(s, 0, &b);
+    put_whole(s, 0, &bytes);
 }
 
-pub fn put_marks(s: &mut [u8], x: ScanMarks)
+pub fn put_marks(s: &mut SessionBytes, x: ScanMarks)
     requires { is_session s.old ≡ true }
     ensures { to.Holds s.new (to.marks_put s.old x) }
 {
-    let b = [bit(x.scan_done), bit(x.scan_in_progress)];
-    put_whole(s, 5, &b);
+    put_whole(s, 5, &[u8::from(x.scan_done), u8::from(x.scan_in_progress)]);
 }
 
-pub fn put_reply(s: &mut [u8], x: PendingResp)
+pub fn put_reply(s: &mut SessionBytes, x: Option<PendingIoctlResp>)
     requires { is_session s.old ≡ true }
     ensures { to.Holds s.new (to.reply_put s.old x) }
 {
     let p = reply_parts(x);
-    let b = [
-        p.tag,
-        (p.offset % 256) as u8,
-        (p.offset / 256 % 256) as u8,
-        (p.len % 256) as u8,
-        (p.len / 256 % 256) as u8,
-        (p.status % 256) as u8,
-        (p.status / 256 % 256) as u8,
-        (p.status / 65536 % 256) as u8,
-        (p.status / 16777216 % 256) as u8,
-    ];
-    put_whole(s, 7, &b);
+    put_whole(s, 7, &[p.tag]);
+    put_whole(s, 8, &p.offset.to_le_bytes());
+    put_whole(s, 10, &p.len.to_le_bytes());
+    put_whole(s, 12, &p.status.to_le_bytes());
 }
 
-pub fn put_frame(s: &mut [u8], x: PendingRx)
+pub fn put_frame(s: &mut SessionBytes, x: Option<PendingBuf>)
     requires { is_session s.old ≡ true }
     ensures { to.Holds s.new (to.frame_put s.old x) }
 {
     let p = frame_parts(x);
-    let b = [
-        p.tag,
-        (p.offset % 256) as u8,
-        (p.offset / 256 % 256) as u8,
-        (p.len % 256) as u8,
-        (p.len / 256 % 256) as u8,
-    ];
-    put_whole(s, 16, &b);
+    put_whole(s, 16, &[p.tag]);
+    put_whole(s, 17, &p.offset.to_le_bytes());
+    put_whole(s, 19, &p.len.to_le_bytes());
 }
 
-pub fn put_wifi(s: &mut [u8], x: WifiState)
+pub fn put_wifi(s: &mut SessionBytes, x: WifiState)
     requires { is_session s.old ≡ true }
     ensures { to.Holds s.new (to.wifi_put s.old x) }
 {
-    let b = [state_number(x)];
-    put_whole(s, 21, &b);
+    put_whole(s, 21, &[state_number(x)]);
 }
 
-pub fn put_auth(s: &mut [u8], x: WifiAuth)
+pub fn put_auth(s: &mut SessionBytes, x: WifiAuth)
     requires { is_session s.old ≡ true }
     ensures { to.Holds s.new (to.auth_put s.old x) }
 {
-    let b = [auth_number(x)];
-    put_whole(s, 22, &b);
+    put_whole(s, 22, &[auth_number(x)]);
 }
 
-pub fn put_failure(s: &mut [u8], x: ConnectFailure)
+pub fn put_failure(s: &mut SessionBytes, x: Option<WifiConnectFailure>)
     requires { is_session s.old ≡ true }
     ensures { to.Holds s.new (to.failure_put s.old x) }
 {
-    let f = failure_parts(x);
-    let b = [
-        f.tag,
-        (f.status % 256) as u8,
-        (f.status / 256 % 256) as u8,
-        (f.status / 65536 % 256) as u8,
-        (f.status / 16777216 % 256) as u8,
-        (f.reason % 256) as u8,
-        (f.reason / 256 % 256) as u8,
-        (f.reason / 65536 % 256) as u8,
-        (f.reason / 16777216 % 256) as u8,
-    ];
-    put_whole(s, 23, &b);
+    let p = failure_parts(x);
+    put_whole(s, 23, &[p.tag]);
+    put_whole(s, 24, &p.status.to_le_bytes());
+    put_whole(s, 28, &p.reason.to_le_bytes());
 }
 
-pub fn put_tick(s: &mut [u8], x: StartedTick)
+pub fn put_tick(s: &mut SessionBytes, x: Option<u64>)
     requires { is_session s.old ≡ true }
     ensures { to.Holds s.new (to.tick_put s.old x) }
 {
     let p = tick_parts(x);
-    let b = [
-        p.tag,
-        (p.tick % 256) as u8,
-        (p.tick / 256 % 256) as u8,
-        (p.tick / 65536 % 256) as u8,
-        (p.tick / 16777216 % 256) as u8,
-        (p.tick / 4294967296 % 256) as u8,
-        (p.tick / 1099511627776 % 256) as u8,
-        (p.tick / 281474976710656 % 256) as u8,
-        (p.tick / 72057594037927936 % 256) as u8,
-    ];
-    put_whole(s, 32, &b);
+    put_whole(s, 32, &[p.tag]);
+    put_whole(s, 33, &p.tick.to_le_bytes());
 }
 
-pub fn put_link(s: &mut [u8], x: Link)
+pub fn put_link(s: &mut SessionBytes, x: Link)
     requires { is_session s.old ≡ true }
     ensures { to.Holds s.new (to.link_put s.old x) }
 {
-    let state = x.state;
-    let auth = x.current_auth;
-    let failure = x.connect_failure;
-    let tick = x.disconnect_started_tick;
-    put_wifi(s, state);
-    put_auth(s, auth);
-    put_failure(s, failure);
-    put_tick(s, tick);
+    put_wifi(s, x.state);
+    put_auth(s, x.current_auth);
+    put_failure(s, x.connect_failure);
+    put_tick(s, x.disconnect_started_tick);
 }

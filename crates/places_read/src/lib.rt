@@ -1,20 +1,19 @@
 // What the parts of a session hold, read where they lie.
-#![tactic(auto)]
+#![tactic(auto, using(session_bytes::proofs::Sized::sized))]
 
 ghost use Rattle.std.specs.Prelude.{◌≡◌, true};
 ghost use Rattle.session_bytes.specs.Session.{is_session, session_in};
 
 use connect_failure::{FailureParts, failure_of};
 use requests::security::auth_of;
-use state_bytes::numbers::{is_one, wifi_of};
+use state_bytes::numbers::wifi_of;
 use state_bytes::parts::{FrameParts, ReplyParts, TickParts, frame_of, reply_of, tick_of};
 use wlan::{
-    ConnectFailure, Link, PendingResp, PendingRx, ScanMarks, Sdpcm, StartedTick, WifiAuth,
-    WifiState,
+    Link, PendingBuf, PendingIoctlResp, ScanMarks, Sdpcm, SessionBytes, WifiAuth,
+    WifiConnectFailure, WifiState,
 };
-use words::{pair, quad, wide};
 
-pub fn sdpcm_at(s: &[u8]) -> Sdpcm
+pub fn sdpcm_at(s: &SessionBytes) -> Sdpcm
     requires { is_session s.now ≡ true }
     ensures { result ≡ (session_in s.now).st.sdpcm }
 {
@@ -23,80 +22,79 @@ pub fn sdpcm_at(s: &[u8]) -> Sdpcm
         last_bus_data_credit: s[1],
         wlan_flow_control: s[2],
         requested_ioctl_id: s[3],
-        had_successful_packet: is_one(s[4]),
+        had_successful_packet: s[4] == 1,
     }
 }
 
-pub fn marks_at(s: &[u8]) -> ScanMarks
+pub fn marks_at(s: &SessionBytes) -> ScanMarks
     requires { is_session s.now ≡ true }
     ensures { result ≡ (session_in s.now).st.scan }
 {
     ScanMarks {
-        scan_done: is_one(s[5]),
-        scan_in_progress: is_one(s[6]),
+        scan_done: s[5] == 1,
+        scan_in_progress: s[6] == 1,
     }
 }
 
-pub fn reply_at(s: &[u8]) -> PendingResp
+pub fn reply_at(s: &SessionBytes) -> Option<PendingIoctlResp>
     requires { is_session s.now ≡ true }
     ensures { result ≡ (session_in s.now).st.pending.ioctl_resp }
 {
     reply_of(ReplyParts {
         tag: s[7],
-        offset: pair(s[8], s[9]),
-        len: pair(s[10], s[11]),
-        status: quad(s[12], s[13], s[14], s[15]),
+        offset: u16::from_le_bytes([s[8], s[9]]),
+        len: u16::from_le_bytes([s[10], s[11]]),
+        status: u32::from_le_bytes([s[12], s[13], s[14], s[15]]),
     })
 }
 
-pub fn frame_at(s: &[u8]) -> PendingRx
+pub fn frame_at(s: &SessionBytes) -> Option<PendingBuf>
     requires { is_session s.now ≡ true }
     ensures { result ≡ (session_in s.now).st.pending.rx }
 {
     frame_of(FrameParts {
         tag: s[16],
-        offset: pair(s[17], s[18]),
-        len: pair(s[19], s[20]),
+        offset: u16::from_le_bytes([s[17], s[18]]),
+        len: u16::from_le_bytes([s[19], s[20]]),
     })
 }
 
-pub fn wifi_at(s: &[u8]) -> WifiState
+pub fn wifi_at(s: &SessionBytes) -> WifiState
     requires { is_session s.now ≡ true }
     ensures { result ≡ (session_in s.now).st.link.state }
 {
     wifi_of(s[21])
 }
 
-pub fn auth_at(s: &[u8]) -> WifiAuth
+pub fn auth_at(s: &SessionBytes) -> WifiAuth
     requires { is_session s.now ≡ true }
     ensures { result ≡ (session_in s.now).st.link.current_auth }
 {
-    auth_of(wide(s[22]))
+    auth_of(u32::from(s[22]))
 }
 
-pub fn failure_at(s: &[u8]) -> ConnectFailure
+pub fn failure_at(s: &SessionBytes) -> Option<WifiConnectFailure>
     requires { is_session s.now ≡ true }
     ensures { result ≡ (session_in s.now).st.link.connect_failure }
 {
     failure_of(FailureParts {
         tag: s[23],
-        status: quad(s[24], s[25], s[26], s[27]),
-        reason: quad(s[28], s[29], s[30], s[31]),
+        status: u32::from_le_bytes([s[24], s[25], s[26], s[27]]),
+        reason: u32::from_le_bytes([s[28], s[29], s[30], s[31]]),
     })
 }
 
-pub fn tick_at(s: &[u8]) -> StartedTick
+pub fn tick_at(s: &SessionBytes) -> Option<u64>
     requires { is_session s.now ≡ true }
     ensures { result ≡ (session_in s.now).st.link.disconnect_started_tick }
 {
     tick_of(TickParts {
         tag: s[32],
-        tick: quad(s[33], s[34], s[35], s[36]) as u64
-            + 4294967296 * quad(s[37], s[38], s[39], s[40]) as u64,
+        tick: u64::from_le_bytes([s[33], s[34], s[35], s[36], s[37], s[38], s[39], s[40]]),
     })
 }
 
-pub fn link_at(s: &[u8]) -> Link
+pub fn link_at(s: &SessionBytes) -> Link
     requires { is_session s.now ≡ true }
     ensures { result ≡ (session_in s.now).st.link }
 {

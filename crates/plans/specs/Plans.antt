@@ -1,5 +1,5 @@
 -- What a call does next, as the code tells it (`Plan`): in the mirror's terms.
-use Rattle.std.specs.Prelude.{ℕ, Bool, true, false}
+use Rattle.std.specs.Prelude.{ℕ, Bool, true, false, None}
 use Rattle.slices.specs.Pick.{pick}
 use Rattle.wlan.specs.declared.DriverError.{DriverError}
 use Rattle.wlan.specs.declared.State.{State}
@@ -8,7 +8,6 @@ use Rattle.wlan.specs.declared.WifiState.{WifiState}
 use Rattle.wlan.specs.State.{with_link, set_link_state, set_auth}
 use Rattle.definition.specs.Join.{is_dev_error}
 use Rattle.requests.specs.declared.Request.{Request}
-use Rattle.send.specs.declared.HeaderPut.{HeaderPut}
 use Rattle.ioctl.specs.declared.IoctlNext.{IoctlNext}
 use Rattle.ioctl.specs.Ioctl.{start_step}
 use Rattle.control.specs.declared.Before.{Before}
@@ -44,7 +43,7 @@ abbrev pub pausing : State → Bool → Before → PauseKind → ℕ → CallSte
 pausing s h before p ns = asks s h before (CallPoint.Pause (pause_by p ns))
 
 abbrev pub key_laid : State → Bool → Before → CallStep
-key_laid s h before = step s h (lays before (RequestPut.Payload Request.Key) HeaderPut.None) (CallNext.Ask (CallPoint.Pause PausePoint.BeforeKey))
+key_laid s h before = step s h (lays before (RequestPut.Payload Request.Key) None) (CallNext.Ask (CallPoint.Pause PausePoint.BeforeKey))
 
 -- the last request of a join of this auth begins
 abbrev pub connecting_by : WifiAuth → State → State

@@ -1,11 +1,9 @@
 // What a call does next.
 #![tactic(auto)]
 
-ghost use Rattle.std.specs.Prelude.{◌≡◌, Bool, false, ℕ, length};
-ghost use Rattle.wlan.specs.declared.BusAnswer.{BusAnswer};
+ghost use Rattle.std.specs.Prelude.{◌≡◌, Bool, false, ℕ, length, Option, Ok};
 ghost use Rattle.wlan.specs.declared.DriverError as error;
 ghost use Rattle.definition.specs.Bus.{Bytes};
-ghost use Rattle.send.specs.declared.HeaderPut.{HeaderPut};
 ghost use Rattle.send.specs.Meaning.{laid_header};
 ghost use Rattle.wlan.specs.declared.State.{State};
 ghost use Rattle.control.specs.declared.Before.{Before};
@@ -18,6 +16,7 @@ ghost use Rattle.undo.specs.Undo.{Kept};
 ghost use Rattle.laying.specs.Laying.{LaidKept};
 ghost use Rattle.reply_points.specs.ReplyPoints as reply;
 ghost use Rattle.plans.specs.Plans as at;
+ghost use Rattle.send.specs.declared.Header.{Header};
 
 use control::{Job, Stage};
 use laying::copy_reply;
@@ -26,7 +25,7 @@ use requests::security::{pmk, sae};
 use send::elapsed_us;
 use steps::stages::{is_last, is_tried};
 use steps::steps::is_dev_error;
-use wlan::{DriverError, WifiAuth};
+use wlan::{DriverError, UndoBytes, WifiAuth, WorkBuffer};
 
 // The waits of a call.
 #[derive(Clone, Copy)]
@@ -255,7 +254,7 @@ pub fn clock_plan(t: u64) -> Plan
 
 // After leave's tick.
 pub fn tick_plan(t: u64) -> Plan
-    ensures { (j : job.Job) (l : Lens) (s : State) → to.tick_answer s (BusAnswer.Value t) ≡ at.planned result j l s false Before.None }
+    ensures { (j : job.Job) (l : Lens) (s : State) → to.tick_answer s (Ok t) ≡ at.planned result j l s false Before.None }
 {
     Plan {
         kind: PlanKind::Disconnect,
@@ -295,11 +294,10 @@ fn is_ignored(g: Stage, e: DriverError) -> bool
 }
 
 // A reply is copied to where the payload was. Whether the call goes on as after one.
-fn goes_on(undo: &mut [u8], buf: &mut [u8], n: IoctlNow, g: Stage) -> bool
+fn goes_on(undo: &mut UndoBytes, buf: &mut WorkBuffer, n: IoctlNow, g: Stage) -> bool
     requires kept_2 { Kept undo.old }
-    requires buf_len { length buf.old ≡ 2048 }
     ensures on { result ≡ at.goes_on n.kind g n.error }
-    ensures laid { (x : HeaderPut) (c₀ : Bytes) → buf.old ≡ laid_header (reply.header_in (reply.next_of n x)) c₀ → buf.new ≡ laid_before (at.before_in (reply.next_of n x)) c₀ }
+    ensures laid { (x : Option Header) (c₀ : Bytes) → buf.old ≡ laid_header (reply.header_in (reply.next_of n x)) c₀ → buf.new ≡ laid_before (at.before_in (reply.next_of n x)) c₀ }
     ensures kept { LaidKept undo.old undo.new buf.old buf.new }
 {
     let k = n.kind;
@@ -315,11 +313,16 @@ fn goes_on(undo: &mut [u8], buf: &mut [u8], n: IoctlNow, g: Stage) -> bool
 }
 
 // After an exchange that is over. Its header is laid already.
-pub fn exchange_plan(j: Job, g: Stage, undo: &mut [u8], buf: &mut [u8], n: IoctlNow) -> Plan
+pub fn exchange_plan(
+    j: Job,
+    g: Stage,
+    undo: &mut UndoBytes,
+    buf: &mut WorkBuffer,
+    n: IoctlNow,
+) -> Plan
     requires kept_2 { Kept undo.old }
-    requires buf_len { length buf.old ≡ 2048 }
-    ensures on { (l : Lens) (s : State) (h : Bool) (x : HeaderPut) → at.is_ask n.kind ≡ false → to.exchange_next j l g s h (reply.next_of n x) ≡ at.planned result j l s h (at.before_in (reply.next_of n x)) }
-    ensures laid { (x : HeaderPut) (c₀ : Bytes) → buf.old ≡ laid_header (reply.header_in (reply.next_of n x)) c₀ → buf.new ≡ laid_before (at.before_in (reply.next_of n x)) c₀ }
+    ensures on { (l : Lens) (s : State) (h : Bool) (x : Option Header) → at.is_ask n.kind ≡ false → to.exchange_next j l g s h (reply.next_of n x) ≡ at.planned result j l s h (at.before_in (reply.next_of n x)) }
+    ensures laid { (x : Option Header) (c₀ : Bytes) → buf.old ≡ laid_header (reply.header_in (reply.next_of n x)) c₀ → buf.new ≡ laid_before (at.before_in (reply.next_of n x)) c₀ }
     ensures kept { LaidKept undo.old undo.new buf.old buf.new }
 {
     let e = n.error;

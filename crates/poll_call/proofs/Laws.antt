@@ -7,7 +7,6 @@ use native.Mathlib.Omega.{arith}
 use lib.ListN.{length, drop}
 use Rattle.slices.specs.Pick.{pick}
 use Rattle.wlan.specs.declared.AsyncEvent.{AsyncEvent}
-use Rattle.wlan.specs.declared.BusAnswer.{BusAnswer}
 use Rattle.wlan.specs.declared.BusOp.{BusOp}
 use Rattle.wlan.specs.declared.DriverError.{DriverError}
 use Rattle.wlan.specs.declared.ScanList.{ScanList}
@@ -52,6 +51,8 @@ use Rattle.run_end.specs.declared.PollReport.{PollReport}
 use Rattle.run_end.specs.declared.RunEnd.{RunEnd}
 use Rattle.poll_call.specs.declared.PollTurned.{PollTurned}
 use Rattle.poll_call.specs.PollCall as to
+use Rattle.std.specs.Prelude.{Ok, Err}
+use Rattle.wlan.specs.Results.{fault_at}
 
 -- ---- its end
 
@@ -92,15 +93,15 @@ module _ (p : PollAt) (y : Ans) (b₀ buf : Bytes) (i : InRange (poll_op (point_
   arrived st = arrival_at (poll_op (point_of p)) buf st.sdpcm
 
   -- b and d: the session's bytes before and after the step
-  pub poll-steps : (b : List ℕ) {u w d : List ℕ} (v : ℕ) {r : PollNow} → BusAnswer.Value v ≡ told y
-      → Stepped u w b d r (arrived (session_in b).st).event (poll_point (session_in b).st (point_of p) (BusAnswer.Value v) (arrived (session_in b).st))
-      → go e ws log len (call_tree to.no_args (poll_point (session_in b).st (point_of p) (BusAnswer.Value v) (arrived (session_in b).st)).next (turning.world_in d buf)) ≡ go e ws log len (Kc to.no_args q y (turning.world_in b b₀))
+  pub poll-steps : (b : List ℕ) {u w d : List ℕ} (v : ℕ) {r : PollNow} → Ok v ≡ told y
+      → Stepped u w b d r (arrived (session_in b).st).event (poll_point (session_in b).st (point_of p) (Ok v) (arrived (session_in b).st))
+      → go e ws log len (call_tree to.no_args (poll_point (session_in b).st (point_of p) (Ok v) (arrived (session_in b).st)).next (turning.world_in d buf)) ≡ go e ws log len (Kc to.no_args q y (turning.world_in b b₀))
   unfolding call_op call_answer
   poll-steps b v hv k =
-      rw k.held.back (step-tree q y (session_in b).st b₀ buf (session_in b).list (poll_point (session_in b).st (point_of p) (BusAnswer.Value v) (arrived (session_in b).st)) i hb (rw hv refl) k.lay e ws log len)
+      rw k.held.back (step-tree q y (session_in b).st b₀ buf (session_in b).list (poll_point (session_in b).st (point_of p) (Ok v) (arrived (session_in b).st)) i hb (rw hv refl) k.lay e ws log len)
 
   -- 7
-  pub poll-faults : (b : List ℕ) (v : ℕ) → BusAnswer.Fault v ≡ told y → go e ws log len (stop (DriverError.Fault v) (turning.world_in b buf)) ≡ go e ws log len (Kc to.no_args q y (turning.world_in b b₀))
+  pub poll-faults : (b : List ℕ) (v : ℕ) → Err (fault_at v) ≡ told y → go e ws log len (stop (DriverError.Fault v) (turning.world_in b buf)) ≡ go e ws log len (Kc to.no_args q y (turning.world_in b b₀))
   unfolding call_op call_answer call_tree poll_point poll_answer next_step list_at list_heard
   poll-faults b v hv =
       step-tree q y (session_in b).st b₀ buf (session_in b).list (refuses (session_in b).st false Before.None (DriverError.Fault v)) i hb (rw (← hv) refl) refl e ws log len
@@ -113,7 +114,7 @@ module _ (y : Ans) (buf : Bytes) (e : World) (ws log : List ℕ) (len : ℕ) whe
   quiet m st = arrival_at (poll_op (first_point m)) buf st.sdpcm
 
   abbrev first_step : Bool → List ℕ → ℕ → CallStep
-  first_step m b v = poll_point (session_in b).st (first_point m) (BusAnswer.Value v) (quiet m (session_in b).st)
+  first_step m b v = poll_point (session_in b).st (first_point m) (Ok v) (quiet m (session_in b).st)
 
   -- it lands nothing
   first-lands : (m : Bool) → buf ≡ landing (poll_op (first_point m)) y buf
@@ -121,7 +122,7 @@ module _ (y : Ans) (buf : Bytes) (e : World) (ws log : List ℕ) (len : ℕ) whe
   first-lands true = refl
   first-lands false = refl
 
-  pub first-steps : (m : Bool) (r : PollNow) (b : List ℕ) {d : List ℕ} (v : ℕ) → InRange (poll_op (first_point m)) y → BusAnswer.Value v ≡ told y → Quiets b d r (first_step m b v)
+  pub first-steps : (m : Bool) (r : PollNow) (b : List ℕ) {d : List ℕ} (v : ℕ) → InRange (poll_op (first_point m)) y → Ok v ≡ told y → Quiets b d r (first_step m b v)
       → go e ws log len (call_tree to.no_args (first_step m b v).next (turning.world_in d buf)) ≡ go e ws log len (Kc to.no_args (at_first m) y (turning.world_in b buf))
   unfolding call_op call_answer list_at list_heard
   first-steps m r b v i hv k =
@@ -129,7 +130,7 @@ module _ (y : Ans) (buf : Bytes) (e : World) (ws log : List ℕ) (len : ℕ) whe
       rw (k.heard, k.clear) at (step-tree (at_first m) y (session_in b).st buf buf (session_in b).list (first_step m b v) i (first-lands m) (rw hv refl) k.lay e ws log len)
       )
 
-  pub first-faults : (m : Bool) (b : List ℕ) (v : ℕ) → InRange (poll_op (first_point m)) y → BusAnswer.Fault v ≡ told y → go e ws log len (stop (DriverError.Fault v) (turning.world_in b buf)) ≡ go e ws log len (Kc to.no_args (at_first m) y (turning.world_in b buf))
+  pub first-faults : (m : Bool) (b : List ℕ) (v : ℕ) → InRange (poll_op (first_point m)) y → Err (fault_at v) ≡ told y → go e ws log len (stop (DriverError.Fault v) (turning.world_in b buf)) ≡ go e ws log len (Kc to.no_args (at_first m) y (turning.world_in b buf))
   unfolding call_op call_answer call_tree poll_point poll_answer next_step list_at list_heard
   first-faults m b v i hv =
       step-tree (at_first m) y (session_in b).st buf buf (session_in b).list (refuses (session_in b).st false Before.None (DriverError.Fault v)) i (first-lands m) (rw (← hv) refl) refl e ws log len
@@ -138,19 +139,19 @@ module _ (started : ℕ) (y : Ans) (buf : Bytes) (e : World) (ws log : List ℕ)
   abbrev at_tick : CallPoint
   at_tick = CallPoint.PollTick started
 
-  tick-steps : (b : List ℕ) {d : List ℕ} (t : ℕ) (v : PollReport) → BusAnswer.Value t ≡ told y → Reports b d v (poll_tick (session_in b).st started (BusAnswer.Value t))
-      → go e ws log len (call_tree to.no_args (poll_tick (session_in b).st started (BusAnswer.Value t)).next (turning.world_in d buf)) ≡ go e ws log len (Kc to.no_args at_tick y (turning.world_in b buf))
+  tick-steps : (b : List ℕ) {d : List ℕ} (t : ℕ) (v : PollReport) → Ok t ≡ told y → Reports b d v (poll_tick (session_in b).st started (Ok t))
+      → go e ws log len (call_tree to.no_args (poll_tick (session_in b).st started (Ok t)).next (turning.world_in d buf)) ≡ go e ws log len (Kc to.no_args at_tick y (turning.world_in b buf))
   unfolding call_op call_answer InRange landing list_at list_heard
   tick-steps b t v ht k =
       rw k.held.back (
-      rw (k.heard, k.clear) at (step-tree at_tick y (session_in b).st buf buf (session_in b).list (poll_tick (session_in b).st started (BusAnswer.Value t)) tt refl (rw ht refl) k.lay e ws log len)
+      rw (k.heard, k.clear) at (step-tree at_tick y (session_in b).st buf buf (session_in b).list (poll_tick (session_in b).st started (Ok t)) tt refl (rw ht refl) k.lay e ws log len)
       )
 
-  pub tick-ends : (b : List ℕ) {d : List ℕ} (t : ℕ) (v : PollReport) → BusAnswer.Value t ≡ told y → Reports b d v (poll_tick (session_in b).st started (BusAnswer.Value t))
+  pub tick-ends : (b : List ℕ) {d : List ℕ} (t : ℕ) (v : PollReport) → Ok t ≡ told y → Reports b d v (poll_tick (session_in b).st started (Ok t))
       → turning.Ends e (go e ws log len (Kc to.no_args at_tick y (turning.world_in b buf))) (reports v len) log d buf
   tick-ends b {d} t v ht k = rw (← tick-steps b t v ht k) (gives-ends e _ v ws log d buf len k.next)
 
-  pub tick-faults : (b : List ℕ) (v : ℕ) → InRange BusOp.ReadTick y → BusAnswer.Fault v ≡ told y → go e ws log len (stop (DriverError.Fault v) (turning.world_in b buf)) ≡ go e ws log len (Kc to.no_args at_tick y (turning.world_in b buf))
+  pub tick-faults : (b : List ℕ) (v : ℕ) → InRange BusOp.ReadTick y → Err (fault_at v) ≡ told y → go e ws log len (stop (DriverError.Fault v) (turning.world_in b buf)) ≡ go e ws log len (Kc to.no_args at_tick y (turning.world_in b buf))
   unfolding call_op call_answer call_tree poll_tick landing list_at list_heard
   tick-faults b v i hv =
       step-tree at_tick y (session_in b).st buf buf (session_in b).list (refuses (session_in b).st false Before.None (DriverError.Fault v)) i refl (rw (← hv) refl) refl e ws log len

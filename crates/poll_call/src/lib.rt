@@ -27,7 +27,7 @@ use poll_report::poll_tick;
 use polls::{first_read, poll_answer};
 use run_end::{RunEnd, done_end, error_end, fault_end, polled_end};
 use turning::{back_end, device_ask, is_back};
-use wlan::DriverError;
+use wlan::{DriverError, SessionBytes, UndoBytes, WorkBuffer};
 
 // A turn goes on at an operation of the device's poll, or the poll is over. end.len: how many words are in the log.
 #[derive(Clone, Copy)]
@@ -68,7 +68,7 @@ fn tick_over(
     started: u64,
     pos: usize,
     len: usize,
-    s: &mut [u8],
+    s: &mut SessionBytes,
     rec: &[u32],
     log: &mut [u32],
 ) -> RunEnd
@@ -91,7 +91,7 @@ fn poll_now(
     n: PollNow,
     pos: usize,
     len: usize,
-    s: &mut [u8],
+    s: &mut SessionBytes,
     rec: &[u32],
     log: &mut [u32],
 ) -> PollTurned
@@ -116,15 +116,14 @@ pub fn poll_turn(
     p: PollAt,
     pos: usize,
     len: usize,
-    s: &mut [u8],
-    undo: &mut [u8],
+    s: &mut SessionBytes,
+    undo: &mut UndoBytes,
     rec: &[u32],
     log: &mut [u32],
-    buf: &mut [u8],
+    buf: &mut WorkBuffer,
 ) -> PollTurned
     requires s_value { is_session s.old ≡ true }
     requires kept_2 { Kept undo.old }
-    requires buf_len { length buf.old ≡ 2048 }
     ensures on { (e : World) → to.Turns e (go e (drop pos rec.now) log.old len (call_tree to.no_args (next.CallNext.Ask (point.CallPoint.Poll (point_of p))) (turning.world_in s.old buf.old))) rec.now result log.new s.new buf.new }
     ensures held { is_session s.new ≡ true }
     ensures kept { turning.KeptAll undo.old undo.new s.old s.new buf.old buf.new }
@@ -153,7 +152,7 @@ fn first_ask(marked: bool, rec: &[u32], log: &mut [u32]) -> Asked
 
 // The first operation stands before the loop: a poll with nothing ends there. What follows is as in `poll_now`, which has one caller so
 // that the loop holds it inline.
-fn first_turn(marked: bool, s: &mut [u8], rec: &[u32], log: &mut [u32]) -> PollTurned
+fn first_turn(marked: bool, s: &mut SessionBytes, rec: &[u32], log: &mut [u32]) -> PollTurned
     requires { is_session s.old ≡ true }
     ensures on { (e : World) (buf : Bytes) → to.Turns e (go e (drop 0 rec.now) log.old 0 (call_tree to.no_args (next.CallNext.Ask (point.CallPoint.Poll (first_point marked))) (turning.world_in s.old buf))) rec.now result log.new s.new buf }
     ensures held { to.Front s.old s.new }
@@ -181,15 +180,14 @@ fn first_turn(marked: bool, s: &mut [u8], rec: &[u32], log: &mut [u32]) -> PollT
 // From a turn on to the end.
 fn poll_on(
     first: PollTurned,
-    s: &mut [u8],
-    undo: &mut [u8],
+    s: &mut SessionBytes,
+    undo: &mut UndoBytes,
     rec: &[u32],
     log: &mut [u32],
-    buf: &mut [u8],
+    buf: &mut WorkBuffer,
 ) -> RunEnd
     requires s_value { is_session s.old ≡ true }
     requires kept_2 { Kept undo.old }
-    requires buf_len { length buf.old ≡ 2048 }
     requires len_in_bounds { first.on ≡ true → first.end.len ≤ length log.old }
     ensures on { (e : World) (x : End) → to.Turns e x rec.now first log.old s.old buf.old → turning.Ends e x result log.new s.new buf.new }
     ensures held { is_session s.new ≡ true }
@@ -207,15 +205,14 @@ fn poll_on(
 
 // From its beginning to its end.
 pub fn poll_run(
-    s: &mut [u8],
-    undo: &mut [u8],
+    s: &mut SessionBytes,
+    undo: &mut UndoBytes,
     rec: &[u32],
     log: &mut [u32],
-    buf: &mut [u8],
+    buf: &mut WorkBuffer,
 ) -> RunEnd
     requires s_value { is_session s.old ≡ true }
     requires kept_2 { Kept undo.old }
-    requires buf_len { length buf.old ≡ 2048 }
     ensures on { (e : World) → turning.Ends e (go e (drop 0 rec.now) log.old 0 (call_tree to.no_args (next.CallNext.Ask (point.CallPoint.Poll (poll_start (session_in s.old).st.sdpcm))) (turning.world_in s.old buf.old))) result log.new s.new buf.new }
     ensures held { is_session s.new ≡ true }
     ensures kept { turning.KeptAll undo.old undo.new s.old s.new buf.old buf.new }

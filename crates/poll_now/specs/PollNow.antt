@@ -1,7 +1,6 @@
 -- Where a poll stands, in the mirror's terms.
-use Rattle.std.specs.Prelude.{ℕ, ◌≡◌, false, List}
+use Rattle.std.specs.Prelude.{ℕ, ◌≡◌, false, List, Option, None}
 use Rattle.wlan.specs.declared.DriverError.{DriverError}
-use Rattle.wlan.specs.declared.StartedTick.{StartedTick}
 use Rattle.wlan.specs.declared.WifiState.{WifiState}
 use Rattle.control.specs.declared.CallNext.{CallNext}
 use Rattle.control.specs.declared.CallPoint.{CallPoint}
@@ -24,8 +23,8 @@ abbrev pub Quiets : List ℕ → List ℕ → PollNow → CallStep → Type 0
 Quiets b d r s = Quiet (NextIs r) b d false s
 
 -- the tick at which a disconnect began that goes on
-unfoldable pub disconnect_tick : WifiState → StartedTick → StartedTick
-disconnect_tick WifiState.Down t = StartedTick.None
-disconnect_tick WifiState.Connecting t = StartedTick.None
-disconnect_tick WifiState.Connected t = StartedTick.None
+unfoldable pub disconnect_tick : WifiState → Option ℕ → Option ℕ
+disconnect_tick WifiState.Down t = None
+disconnect_tick WifiState.Connecting t = None
+disconnect_tick WifiState.Connected t = None
 disconnect_tick WifiState.Disconnecting t = t

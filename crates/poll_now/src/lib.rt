@@ -13,7 +13,7 @@ use places_read::{tick_at, wifi_at};
 use poll_points::{PollAt, PollKind, poll_from};
 use poll_report::report;
 use run_end::{PollReport, unfailed};
-use wlan::{PendingBuf, PendingRx, StartedTick, WifiState};
+use wlan::{PendingBuf, SessionBytes, WifiState};
 
 #[derive(Clone, Copy)]
 pub enum NowKind {
@@ -64,7 +64,7 @@ pub fn asks(p: PollAt) -> PollNow
 }
 
 // A poll of the device begins.
-pub fn polling(s: &[u8]) -> PollNow
+pub fn polling(s: &SessionBytes) -> PollNow
     requires { is_session s.now ≡ true }
     ensures { (h : Bool) → Quiet (at.NextIs result) s.now s.now h (to.polling_step (session_in s.now).st h) }
 {
@@ -72,33 +72,33 @@ pub fn polling(s: &[u8]) -> PollNow
 }
 
 // The tick at which a disconnect began that goes on.
-fn disconnect_tick(s: &[u8]) -> StartedTick
+fn disconnect_tick(s: &SessionBytes) -> Option<u64>
     requires { is_session s.now ≡ true }
     ensures { result ≡ at.disconnect_tick (session_in s.now).st.link.state (session_in s.now).st.link.disconnect_started_tick }
 {
     let state = wifi_at(s);
     match state {
-        WifiState::Down => StartedTick::None,
-        WifiState::Connecting => StartedTick::None,
-        WifiState::Connected => StartedTick::None,
+        WifiState::Down => None,
+        WifiState::Connecting => None,
+        WifiState::Connected => None,
         WifiState::Disconnecting => tick_at(s),
     }
 }
 
 // Nothing more is there.
-pub fn nothing(s: &mut [u8]) -> PollNow
+pub fn nothing(s: &mut SessionBytes) -> PollNow
     requires { is_session s.old ≡ true }
     ensures { at.Quiets s.old s.new result (to.nothing_step (session_in s.old).st) }
 {
     let t = disconnect_tick(s);
     match t {
-        StartedTick::None => over(report(s)),
-        StartedTick::Some(n) => now_at(NowKind::Tick, n, unfailed(0)),
+        None => over(report(s)),
+        Some(n) => now_at(NowKind::Tick, n, unfailed(0)),
     }
 }
 
 // A frame below 14 bytes is dropped.
-pub fn frame(s: &mut [u8], offset: u16, len: u16) -> PollNow
+pub fn frame(s: &mut SessionBytes, offset: u16, len: u16) -> PollNow
     requires { is_session s.old ≡ true }
     ensures { at.Quiets s.old s.new result (to.frame_step (session_in s.old).st offset len) }
 {
@@ -107,7 +107,7 @@ pub fn frame(s: &mut [u8], offset: u16, len: u16) -> PollNow
     }
     put_frame(
         s,
-        PendingRx::Some(PendingBuf {
+        Some(PendingBuf {
             offset: offset,
             len: len,
         }),

@@ -14,8 +14,8 @@ ghost use Rattle.poll_points.specs.PollPoints as at;
 use places::write::put_sdpcm;
 use places_read::sdpcm_at;
 use sdpcm::status::{f2_available, has_packet, pending, unreadable};
-use wlan::Interface;
 use wlan::setters::set_mark;
+use wlan::{Interface, SessionBytes};
 
 #[derive(Clone, Copy)]
 pub enum PollKind {
@@ -91,7 +91,7 @@ pub fn none() -> Polled
 }
 
 // Without an earlier good packet the interrupt comes first.
-pub fn poll_from(s: &[u8]) -> PollAt
+pub fn poll_from(s: &SessionBytes) -> PollAt
     requires { is_session s.now ≡ true }
     ensures { at.point_of result ≡ to.poll_start (session_in s.now).st.sdpcm }
 {
@@ -137,7 +137,7 @@ pub fn waited(left: u16) -> Polled
 }
 
 // The mark is cleared; no packet.
-pub fn unmarked(s: &mut [u8]) -> Polled
+pub fn unmarked(s: &mut SessionBytes) -> Polled
     requires { is_session s.old ≡ true }
     ensures { at.Polls s.old s.new result (to.step (set_mark (session_in s.old).st.sdpcm false) (next.PollNext.Got packet.SdpcmPacket.None)) }
 {
@@ -145,7 +145,7 @@ pub fn unmarked(s: &mut [u8]) -> Polled
     none()
 }
 
-fn by_status(s: &mut [u8], v: u32) -> Polled
+fn by_status(s: &mut SessionBytes, v: u32) -> Polled
     requires { is_session s.old ≡ true }
     ensures { at.Polls s.old s.new result (to.status_step (session_in s.old).st.sdpcm v) }
 {
@@ -158,7 +158,7 @@ fn by_status(s: &mut [u8], v: u32) -> Polled
     unmarked(s)
 }
 
-pub fn status_read(s: &mut [u8], left: u16, v: u32) -> Polled
+pub fn status_read(s: &mut SessionBytes, left: u16, v: u32) -> Polled
     requires { is_session s.old ≡ true }
     ensures { at.Polls s.old s.new result (to.read_step (session_in s.old).st.sdpcm left v) }
 {

@@ -1,6 +1,5 @@
 -- A poll's value at its end, and what its step leaves in a session's bytes: b before it, d after it.
-use Rattle.std.specs.Prelude.{ℕ, ◌≡◌, Bool, false, List}
-use Rattle.wlan.specs.declared.ConnectFailure.{ConnectFailure}
+use Rattle.std.specs.Prelude.{ℕ, ◌≡◌, Bool, false, List, Option, None}
 use Rattle.wlan.specs.declared.WifiState.{WifiState}
 use Rattle.control.specs.declared.Before.{Before}
 use Rattle.control.specs.declared.CallNext.{CallNext}
@@ -11,13 +10,14 @@ use Rattle.session_bytes.specs.Session.{with_state}
 use Rattle.places.specs.Places.{Holds}
 use Rattle.run_end.specs.declared.PollReport.{PollReport}
 use Rattle.run_end.specs.RunEnd.{report_of}
+use Rattle.wlan.specs.declared.WifiConnectFailure.{WifiConnectFailure}
 
 -- the failed join that is to be reported
-unfoldable pub reportable : WifiState → ConnectFailure → ConnectFailure
+unfoldable pub reportable : WifiState → Option WifiConnectFailure → Option WifiConnectFailure
 reportable WifiState.Down f = f
-reportable WifiState.Connecting f = ConnectFailure.None
-reportable WifiState.Connected f = ConnectFailure.None
-reportable WifiState.Disconnecting f = ConnectFailure.None
+reportable WifiState.Connecting f = None
+reportable WifiState.Connected f = None
+reportable WifiState.Disconnecting f = None
 
 -- the poll is over, and reports v
 unfoldable pub Gives : CallNext → PollReport → Type 0

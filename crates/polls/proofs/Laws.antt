@@ -7,7 +7,6 @@ use lib.Bits.{bit_and}
 use lib.Dec.{eqb}
 use borrow.Author.Tests.{eq-eqb, ne_eqb}
 use Rattle.wlan.specs.declared.AsyncEvent.{AsyncEvent}
-use Rattle.wlan.specs.declared.BusAnswer.{BusAnswer}
 use Rattle.wlan.specs.declared.State.{State}
 use Rattle.wlan.specs.State.{with_sdpcm, set_mark}
 use Rattle.device.specs.declared.Arrival.{Arrival}
@@ -33,10 +32,11 @@ use Rattle.poll_report.proofs.Laws.{still}
 use Rattle.poll_now.specs.declared.PollNow.{PollNow}
 use Rattle.poll_now.specs.PollNow.{NextIs, Quiets}
 use Rattle.polls.specs.Polls.{Stepped}
+use Rattle.std.specs.Prelude.{Ok}
 
 -- an interrupt that is not 0 is written back
 pub acknowledges : (r : PollNow) (b : List ℕ) (v : ℕ) (a : Arrival) → is_session b ≡ true → (v % 65536 ≡ 0 → ⊥) → NextIs r (CallNext.Ask (CallPoint.Poll (PollPoint.Acknowledge (v % 65536))))
-    → Quiets b b r (to.poll_point (session_in b).st PollPoint.Interrupt (BusAnswer.Value v) a)
+    → Quiets b b r (to.poll_point (session_in b).st PollPoint.Interrupt (Ok v) a)
 unfolding to.poll_point to.next_step poll_answer valued_step interrupt_step
 acknowledges r b v a k h n = rw (ne_eqb (v % 65536) 0 h) (still k n refl)
 
@@ -46,7 +46,7 @@ module _ (b : List ℕ) (v : ℕ) (a : Arrival) where
   word = v % 4294967296
 
   abbrev first : CallStep
-  first = to.poll_point (session_in b).st (PollPoint.Status 999) (BusAnswer.Value v) a
+  first = to.poll_point (session_in b).st (PollPoint.Status 999) (Ok v) a
 
   pub status-waits : (r : PollNow) → is_session b ≡ true → word ≡ 0xffffffff → NextIs r (CallNext.Ask (CallPoint.Poll (PollPoint.Waited 999))) → Quiets b b r first
   unfolding to.poll_point to.next_step poll_answer valued_step read_step

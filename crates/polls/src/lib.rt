@@ -1,9 +1,8 @@
 // `poll` on a session's bytes: what it does with an answer. buf has what the answer left.
 #![tactic(auto)]
 
-ghost use Rattle.std.specs.Prelude.{◌≡◌, true, length};
+ghost use Rattle.std.specs.Prelude.{◌≡◌, true, length, Ok};
 ghost use Rattle.wlan.specs.declared.AsyncEvent.{AsyncEvent};
-ghost use Rattle.wlan.specs.declared.BusAnswer.{BusAnswer};
 ghost use Rattle.device.specs.declared.Arrival.{Arrival};
 ghost use Rattle.device.specs.declared.PollPoint as point;
 ghost use Rattle.device.specs.Poll.{poll_op};
@@ -24,12 +23,12 @@ use receive::{poll_device, store_reply};
 use run_end::unfailed;
 use sdpcm::status::{has_packet, pending, unreadable};
 use wlan::setters::set_mark;
+use wlan::{SessionBytes, UndoBytes, WorkBuffer};
 
 // What the device's poll came to.
-fn polled(s: &mut [u8], undo: &mut [u8], buf: &[u8], r: Polled) -> PollNow
+fn polled(s: &mut SessionBytes, undo: &mut UndoBytes, buf: &WorkBuffer, r: Polled) -> PollNow
     requires s_value { is_session s.old ≡ true }
     requires kept { Kept undo.old }
-    requires buf_len { length buf.now ≡ 2048 }
     ensures { (e : AsyncEvent) → Tells buf.now e (next_of r) → at.Stepped undo.old undo.new s.old s.new result e (to.next_step (session_in s.old).st e (next_of r)) }
 {
     let k = r.kind;
@@ -53,9 +52,9 @@ fn polled(s: &mut [u8], undo: &mut [u8], buf: &[u8], r: Polled) -> PollNow
 }
 
 // The interrupt was read.
-fn first_interrupt(s: &mut [u8], v: u64) -> PollNow
+fn first_interrupt(s: &mut SessionBytes, v: u64) -> PollNow
     requires { is_session s.old ≡ true }
-    ensures { (a : Arrival) → Quiets s.old s.new result (to.poll_point (session_in s.old).st point.PollPoint.Interrupt (BusAnswer.Value v) a) }
+    ensures { (a : Arrival) → Quiets s.old s.new result (to.poll_point (session_in s.old).st point.PollPoint.Interrupt (Ok v) a) }
 {
     let i = (v % 65536) as u16;
     if i == 0 {
@@ -68,9 +67,9 @@ fn first_interrupt(s: &mut [u8], v: u64) -> PollNow
 }
 
 // The status was read, for the first time.
-fn first_status(s: &mut [u8], v: u64) -> PollNow
+fn first_status(s: &mut SessionBytes, v: u64) -> PollNow
     requires { is_session s.old ≡ true }
-    ensures { (a : Arrival) → Quiets s.old s.new result (to.poll_point (session_in s.old).st (point.PollPoint.Status 999) (BusAnswer.Value v) a) }
+    ensures { (a : Arrival) → Quiets s.old s.new result (to.poll_point (session_in s.old).st (point.PollPoint.Status 999) (Ok v) a) }
 {
     let w = (v % 4294967296) as u32;
     if w == 0xffff_ffff {
@@ -96,9 +95,9 @@ fn first_status(s: &mut [u8], v: u64) -> PollNow
 }
 
 // A poll's first answer; marked: an earlier packet was good, and the status was asked for.
-pub fn first_read(marked: bool, s: &mut [u8], v: u64) -> PollNow
+pub fn first_read(marked: bool, s: &mut SessionBytes, v: u64) -> PollNow
     requires { is_session s.old ≡ true }
-    ensures { (a : Arrival) → Quiets s.old s.new result (to.poll_point (session_in s.old).st (at.first_point marked) (BusAnswer.Value v) a) }
+    ensures { (a : Arrival) → Quiets s.old s.new result (to.poll_point (session_in s.old).st (at.first_point marked) (Ok v) a) }
 {
     if marked {
         return first_status(s, v);
@@ -107,11 +106,16 @@ pub fn first_read(marked: bool, s: &mut [u8], v: u64) -> PollNow
 }
 
 // The value of an answer to the operation at p.
-pub fn poll_answer(s: &mut [u8], undo: &mut [u8], buf: &[u8], p: PollAt, v: u64) -> PollNow
+pub fn poll_answer(
+    s: &mut SessionBytes,
+    undo: &mut UndoBytes,
+    buf: &WorkBuffer,
+    p: PollAt,
+    v: u64,
+) -> PollNow
     requires s_value { is_session s.old ≡ true }
     requires kept { Kept undo.old }
-    requires buf_len { length buf.now ≡ 2048 }
-    ensures { at.Stepped undo.old undo.new s.old s.new result (arrival_at (poll_op (point_of p)) buf.now (session_in s.old).st.sdpcm).event (to.poll_point (session_in s.old).st (point_of p) (BusAnswer.Value v) (arrival_at (poll_op (point_of p)) buf.now (session_in s.old).st.sdpcm)) }
+    ensures { at.Stepped undo.old undo.new s.old s.new result (arrival_at (poll_op (point_of p)) buf.now (session_in s.old).st.sdpcm).event (to.poll_point (session_in s.old).st (point_of p) (Ok v) (arrival_at (poll_op (point_of p)) buf.now (session_in s.old).st.sdpcm)) }
 {
     let r = poll_device(s, p, v, buf);
     polled(s, undo, buf, r)

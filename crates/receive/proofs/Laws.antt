@@ -3,7 +3,6 @@ use mathlib.Core.Path.{◌≡◌, refl}
 use mathlib.Core.List.{List}
 use Prim.Native.Nat.{ℕ}
 use lib.IntN.{ℤ}
-use Rattle.wlan.specs.declared.BusAnswer.{BusAnswer}
 use Rattle.wlan.specs.declared.Interface.{Interface}
 use Rattle.wlan.specs.declared.RxPacket.{RxPacket}
 use Rattle.wlan.specs.declared.Sdpcm.{Sdpcm}
@@ -20,11 +19,13 @@ use Rattle.places.specs.Places.{Holds, sdpcm_put}
 use Rattle.poll_points.specs.declared.Polled.{Polled}
 use Rattle.poll_points.specs.PollPoints.{next_by, next_of, came_by, Polls}
 use Rattle.receive.specs.Receive.{polled_at, polled_kind}
+use Rattle.std.specs.Prelude.{Ok, Err}
+use Rattle.wlan.specs.Results.{BusAnswer}
 
 pub polled-tells : (s : Sdpcm) (p : PollPoint) (x : BusAnswer) (b : Bytes) → Tells b (arrival_at (poll_op p) b s).event (polled_at s p x b).next
 unfolding Tells poll_answer
-polled-tells s p (BusAnswer.Value v) b = tells-valued p v s b
-polled-tells s p (BusAnswer.Fault place) b = tt
+polled-tells s p (Ok v) b = tells-valued p v s b
+polled-tells s p (Err f) b = tt
 
 pub processed : {b d : List ℕ} {r : Polled} (x : Processed) (y : RxPacket) → Holds d (sdpcm_put b x.sdpcm) → ((s : Sdpcm) → step s (next_of r) ≡ got_step s (received_of x.packet)) → rx_of x ≡ y → Polls b d r (received_step y)
 processed x y h k e = rw (← e, ← k x.sdpcm) (record { next = refl; held = h })

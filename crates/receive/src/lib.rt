@@ -1,8 +1,7 @@
 // An answer to a poll of the device, on a session's bytes; buf has what it left. A packet that came, and a reply that is stored.
 #![tactic(auto)]
 
-ghost use Rattle.std.specs.Prelude.{◌≡◌, true, length};
-ghost use Rattle.wlan.specs.declared.BusAnswer.{BusAnswer};
+ghost use Rattle.std.specs.Prelude.{◌≡◌, true, length, Ok};
 ghost use Rattle.wlan.specs.declared.Sdpcm.{Sdpcm};
 ghost use Rattle.rx_payload.specs.Packets.{received_of};
 ghost use Rattle.device.specs.Poll as to;
@@ -23,7 +22,7 @@ use rx::sdpcm_process_rx_packet;
 use rx_header::blank;
 use rx_payload::{Packet, PacketKind};
 use wlan::setters::set_mark;
-use wlan::{PendingBuf, PendingIoctlResp, PendingResp};
+use wlan::{PendingBuf, PendingIoctlResp, SessionBytes, WorkBuffer};
 
 fn polled_kind(k: PacketKind) -> PolledKind
     ensures { result ≡ polled_kind k }
@@ -46,9 +45,8 @@ fn received(p: Packet) -> Polled
 }
 
 // A packet was read.
-fn arrived(s: &mut [u8], n: u16, buf: &[u8]) -> Polled
+fn arrived(s: &mut SessionBytes, n: u16, buf: &WorkBuffer) -> Polled
     requires s_value { is_session s.old ≡ true }
-    requires buf_len { length buf.now ≡ 2048 }
     ensures { Polls s.old s.new result (to.arrived_step (session_in s.old).st.sdpcm (arrival_of n buf.now (session_in s.old).st.sdpcm)) }
 {
     if blank(buf) {
@@ -62,10 +60,9 @@ fn arrived(s: &mut [u8], n: u16, buf: &[u8]) -> Polled
 }
 
 // The value of an answer to the operation at p.
-pub fn poll_device(s: &mut [u8], p: PollAt, v: u64, buf: &[u8]) -> Polled
+pub fn poll_device(s: &mut SessionBytes, p: PollAt, v: u64, buf: &WorkBuffer) -> Polled
     requires s_value { is_session s.old ≡ true }
-    requires buf_len { length buf.now ≡ 2048 }
-    ensures { Polls s.old s.new result (polled_at (session_in s.old).st.sdpcm (point_of p) (BusAnswer.Value v) buf.now) }
+    ensures { Polls s.old s.new result (polled_at (session_in s.old).st.sdpcm (point_of p) (Ok v) buf.now) }
 {
     let k = p.kind;
     let n = p.n;
@@ -80,13 +77,13 @@ pub fn poll_device(s: &mut [u8], p: PollAt, v: u64, buf: &[u8]) -> Polled
 }
 
 // A reply that comes before it is asked for is stored.
-pub fn store_reply(s: &mut [u8], offset: u16, len: u16, status: i32)
+pub fn store_reply(s: &mut SessionBytes, offset: u16, len: u16, status: i32)
     requires { is_session s.old ≡ true }
     ensures { Holds s.new (with_state s.old (stored (session_in s.old).st offset len status)) }
 {
     put_reply(
         s,
-        PendingResp::Some(PendingIoctlResp {
+        Some(PendingIoctlResp {
             buf: PendingBuf {
                 offset: offset,
                 len: len,

@@ -1,7 +1,6 @@
 -- The code's flat values in the mirror's terms.
-use Rattle.std.specs.Prelude.{ℕ, Bool}
+use Rattle.std.specs.Prelude.{ℕ, Bool, Option, None}
 use Rattle.wlan.specs.declared.State.{State}
-use Rattle.send.specs.declared.HeaderPut.{HeaderPut}
 use Rattle.ioctl.specs.declared.Copied.{Copied}
 use Rattle.ioctl.specs.declared.IoctlNext.{IoctlNext}
 use Rattle.ioctl.specs.declared.IoctlPoint.{IoctlPoint}
@@ -15,6 +14,7 @@ use Rattle.reply_points.specs.declared.IoctlAt.{IoctlAt}
 use Rattle.reply_points.specs.declared.IoctlKind.{IoctlKind}
 use Rattle.reply_points.specs.declared.IoctlNow.{IoctlNow}
 use Rattle.reply_points.specs.declared.IoctlNowKind.{IoctlNowKind}
+use Rattle.send.specs.declared.Header.{Header}
 
 unfoldable pub point_by : IoctlKind → PollAt → ℕ → ℕ → ℕ → IoctlPoint
 point_by IoctlKind.StallFirst q t0 left n = IoctlPoint.Sending (send.point_by SendKind.First q t0 left n)
@@ -48,19 +48,19 @@ abbrev pub copied : ℕ → ℕ → Copied
 copied offset n = record { offset = offset; count = n }
 
 -- the header that a step lays
-unfoldable pub header_in : IoctlNext → HeaderPut
+unfoldable pub header_in : IoctlNext → Option Header
 header_in (IoctlNext.Ask h p) = h
-header_in (IoctlNext.Done c) = HeaderPut.None
+header_in (IoctlNext.Done c) = None
 header_in (IoctlNext.Refused h e) = h
 
-unfoldable pub next_by : IoctlNowKind → IoctlNow → HeaderPut → IoctlNext
+unfoldable pub next_by : IoctlNowKind → IoctlNow → Option Header → IoctlNext
 next_by IoctlNowKind.Ask r h = IoctlNext.Ask h (point_of r.at)
 next_by IoctlNowKind.Done r h = IoctlNext.Done (copied r.offset r.count)
 next_by IoctlNowKind.Refused r h = IoctlNext.Refused h r.error
 
-abbrev pub next_of : IoctlNow → HeaderPut → IoctlNext
+abbrev pub next_of : IoctlNow → Option Header → IoctlNext
 next_of r h = next_by r.kind r h
 
 -- a step that lays nothing and leaves the state
 abbrev pub stays : State → Bool → IoctlNow → IoctlStep
-stays s h r = step s h (next_of r HeaderPut.None)
+stays s h r = step s h (next_of r None)

@@ -1,11 +1,10 @@
 // `do_ioctl`: where an exchange waits, and the steps of it that lay nothing and change nothing. What is handed on is flat.
 #![tactic(auto)]
 
-ghost use Rattle.std.specs.Prelude.{◌≡◌, Bool, true, false, ℕ};
+ghost use Rattle.std.specs.Prelude.{◌≡◌, Bool, true, false, ℕ, Option};
 ghost use Rattle.wlan.specs.declared.DriverError as error;
 ghost use Rattle.wlan.specs.declared.State.{State};
 ghost use Rattle.definition.specs.Send.{response_of};
-ghost use Rattle.send.specs.declared.HeaderPut.{HeaderPut};
 ghost use Rattle.send.specs.Send.{emit_step, ready_step, spending, put_of};
 ghost use Rattle.ioctl.specs.declared.IoctlNext as next;
 ghost use Rattle.ioctl.specs.declared.IoctlPoint.{IoctlPoint};
@@ -13,12 +12,13 @@ ghost use Rattle.ioctl.specs.Ioctl as to;
 ghost use Rattle.session_bytes.specs.Session.{is_session, session_in};
 ghost use Rattle.send_points.specs.SendPoints as send;
 ghost use Rattle.reply_points.specs.ReplyPoints as at;
+ghost use Rattle.send.specs.declared.Header.{Header};
 
 use poll_points::{PollAt, poll_from};
 use sdpcm::status::f2_ready;
 use send::{OutPacket, elapsed_us};
 use send_points::{SendAt, SendKind, unpolled};
-use wlan::{DriverError, PendingIoctlResp};
+use wlan::{DriverError, PendingIoctlResp, SessionBytes};
 
 // A send's point or the exchange's own: the stall before the write, the status and the write, then the wait for the reply.
 #[derive(Clone, Copy)]
@@ -64,7 +64,7 @@ pub struct IoctlNow {
 }
 
 pub fn asks(kind: IoctlKind, q: PollAt, t0: u64, left: u16, n: u16) -> IoctlNow
-    ensures { (h : HeaderPut) → at.next_of result h ≡ next.IoctlNext.Ask h (at.point_by kind q t0 left n) }
+    ensures { (h : Option Header) → at.next_of result h ≡ next.IoctlNext.Ask h (at.point_by kind q t0 left n) }
 {
     IoctlNow {
         kind: IoctlNowKind::Ask,
@@ -83,7 +83,7 @@ pub fn asks(kind: IoctlKind, q: PollAt, t0: u64, left: u16, n: u16) -> IoctlNow
 
 // A point outside a poll.
 pub fn waits(kind: IoctlKind, t0: u64, left: u16, n: u16) -> IoctlNow
-    ensures { (h : HeaderPut) → at.next_of result h ≡ next.IoctlNext.Ask h (at.point_by kind send.unpolled t0 left n) }
+    ensures { (h : Option Header) → at.next_of result h ≡ next.IoctlNext.Ask h (at.point_by kind send.unpolled t0 left n) }
 {
     asks(kind, unpolled(), t0, left, n)
 }
@@ -107,13 +107,13 @@ fn ended(kind: IoctlNowKind, offset: u16, n: u16, e: DriverError) -> IoctlNow
 }
 
 fn done(offset: u16, n: u16) -> IoctlNow
-    ensures { (h : HeaderPut) → at.next_of result h ≡ next.IoctlNext.Done (at.copied offset n) }
+    ensures { (h : Option Header) → at.next_of result h ≡ next.IoctlNext.Done (at.copied offset n) }
 {
     ended(IoctlNowKind::Done, offset, n, DriverError::Io)
 }
 
 pub fn refuse(e: DriverError) -> IoctlNow
-    ensures { (h : HeaderPut) → at.next_of result h ≡ next.IoctlNext.Refused h e }
+    ensures { (h : Option Header) → at.next_of result h ≡ next.IoctlNext.Refused h e }
 {
     ended(IoctlNowKind::Refused, 0, 0, e)
 }
@@ -147,7 +147,7 @@ pub fn finish_stored(len: u16, p: PendingIoctlResp) -> IoctlNow
 
 // A point of the send.
 pub fn sends(p: SendAt) -> IoctlNow
-    ensures { (h : HeaderPut) → at.next_of result h ≡ next.IoctlNext.Ask h (IoctlPoint.Sending (send.point_of p)) }
+    ensures { (h : Option Header) → at.next_of result h ≡ next.IoctlNext.Ask h (IoctlPoint.Sending (send.point_of p)) }
 {
     let k = p.kind;
     let q = p.at;
@@ -164,7 +164,7 @@ pub fn sends(p: SendAt) -> IoctlNow
 // Once the request's header is laid and the sequence number spent: a packet above 2,040 bytes goes no further.
 pub fn emitted(out: OutPacket) -> IoctlNow
     ensures next { (s : State) (h : Bool) (len : ℕ) → to.sending_step (emit_step s h out) len ≡ to.step (spending s) h (at.next_of result (put_of s out)) }
-    ensures laid { (h : HeaderPut) → at.header_in (at.next_of result h) ≡ h }
+    ensures laid { (h : Option Header) → at.header_in (at.next_of result h) ≡ h }
 {
     let size = out.size;
     if 2040 < size {
@@ -212,7 +212,7 @@ pub fn stalls(p: IoctlAt) -> SendAt
     }
 }
 
-pub fn test_read(s: &[u8], t0: u64, t: u64) -> IoctlNow
+pub fn test_read(s: &SessionBytes, t0: u64, t: u64) -> IoctlNow
     requires { is_session s.now ≡ true }
     ensures { to.test_step (session_in s.now).st t0 t ≡ at.stays (session_in s.now).st false result }
 {
@@ -225,7 +225,7 @@ pub fn test_read(s: &[u8], t0: u64, t: u64) -> IoctlNow
 
 // The operation, no wait, met a fault.
 pub fn ioctl_fault(place: u8) -> IoctlNow
-    ensures { (h : HeaderPut) → at.next_of result h ≡ next.IoctlNext.Refused h (error.DriverError.Fault place) }
+    ensures { (h : Option Header) → at.next_of result h ≡ next.IoctlNext.Refused h (error.DriverError.Fault place) }
 {
     refuse(DriverError::Fault(place))
 }

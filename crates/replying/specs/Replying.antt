@@ -1,13 +1,11 @@
 -- What a step of `do_ioctl` leaves: in a session's bytes (b before it, d after it), in the work buffer (c and f), and in what is kept (u and v).
-use Rattle.std.specs.Prelude.{ℕ, ◌≡◌, Bool, List}
+use Rattle.std.specs.Prelude.{ℕ, ◌≡◌, Bool, List, Option, Ok}
 use Rattle.wlan.specs.declared.AsyncEvent.{AsyncEvent}
-use Rattle.wlan.specs.declared.BusAnswer.{BusAnswer}
 use Rattle.wlan.specs.declared.State.{State}
 use Rattle.definition.specs.Bus.{Bytes}
 use Rattle.handling.specs.Handle.{list_heard}
 use Rattle.device.specs.declared.Arrival.{Arrival}
 use Rattle.device.specs.Meaning.{arrival_at}
-use Rattle.send.specs.declared.HeaderPut.{HeaderPut}
 use Rattle.send.specs.declared.SendPoint.{SendPoint}
 use Rattle.send.specs.declared.SendStep.{SendStep}
 use Rattle.send.specs.Send as snd
@@ -20,6 +18,7 @@ use Rattle.places.specs.Places.{Holds}
 use Rattle.undo.specs.Undo.{Kept, back_session, back_buf}
 use Rattle.reply_points.specs.declared.IoctlNow.{IoctlNow}
 use Rattle.reply_points.specs.ReplyPoints.{header_in, next_of}
+use Rattle.send.specs.declared.Header.{Header}
 
 -- ---- the send's step
 
@@ -27,7 +26,7 @@ abbrev pub send_arrival : SendPoint → Bytes → State → Arrival
 send_arrival p b s = arrival_at (snd.send_op p) b s.sdpcm
 
 abbrev pub send_step : State → ℕ → SendPoint → ℕ → Bytes → SendStep
-send_step s len p v b = snd.send_answer s (out_of len) p (BusAnswer.Value v) (send_arrival p b s)
+send_step s len p v b = snd.send_answer s (out_of len) p (Ok v) (send_arrival p b s)
 
 -- the first step, once the id is spent
 abbrev pub first_step : State → ℕ → IoctlStep
@@ -39,7 +38,7 @@ abbrev pub Numbered : List ℕ → List ℕ → Type 0
 Numbered b d = Holds d (with_state b (numbering (session_in b).st))
 
 -- a step that changes the state alone; the header x is laid already, and what was heard before it is in the list
-pub record Follows (b d : List ℕ) (r : IoctlNow) (h : Bool) (x : HeaderPut) (s : IoctlStep) : Type 0 where
+pub record Follows (b d : List ℕ) (r : IoctlNow) (h : Bool) (x : Option Header) (s : IoctlStep) : Type 0 where
   pub next : next_of r (header_in s.next) ≡ s.next
   pub header : header_in s.next ≡ x
   pub held : Holds d (with_state b s.st)

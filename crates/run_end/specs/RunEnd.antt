@@ -1,9 +1,7 @@
 -- An outcome as numbers.
-use Rattle.std.specs.Prelude.{ℕ, ◌<◌, ◌≡◌, false, eqb}
+use Rattle.std.specs.Prelude.{ℕ, ◌<◌, ◌≡◌, false, eqb, Option, Some, None, Ok, Err}
 use Rattle.slices.specs.Pick.{pick}
-use Rattle.wlan.specs.declared.ConnectFailure.{ConnectFailure}
 use Rattle.wlan.specs.declared.DriverError.{DriverError}
-use Rattle.wlan.specs.declared.Outcome.{Outcome}
 use Rattle.wlan.specs.declared.Refusal.{Refusal}
 use Rattle.wlan.specs.declared.Success.{Success}
 use Rattle.wlan.specs.declared.WlanPollResult.{WlanPollResult}
@@ -13,6 +11,8 @@ use Rattle.connect_failure.specs.Parts.{failure_parts}
 use Rattle.run_end.specs.declared.EndKind.{EndKind}
 use Rattle.run_end.specs.declared.PollReport.{PollReport}
 use Rattle.run_end.specs.declared.RunEnd.{RunEnd}
+use Rattle.wlan.specs.declared.WifiConnectFailure.{WifiConnectFailure}
+use Rattle.wlan.specs.Results.{Outcome}
 
 abbrev pub error_kind : DriverError → EndKind
 error_kind DriverError.InvalidArg = EndKind.InvalidArg
@@ -40,24 +40,24 @@ success_kind (Success.Mac n) = EndKind.Mac
 success_kind (Success.Word n) = EndKind.Word
 
 abbrev pub kind_of : Outcome → EndKind
-kind_of (Outcome.Ok x) = success_kind x
-kind_of (Outcome.Refused r) = refusal_kind r
+kind_of (Ok x) = success_kind x
+kind_of (Err r) = refusal_kind r
 
-abbrev pub failed_poll : WlanPollResult → ConnectFailure
-failed_poll WlanPollResult.None = ConnectFailure.None
-failed_poll WlanPollResult.Rx = ConnectFailure.None
-failed_poll (WlanPollResult.ConnectFailed f) = ConnectFailure.Some f
+abbrev pub failed_poll : WlanPollResult → Option WifiConnectFailure
+failed_poll WlanPollResult.None = None
+failed_poll WlanPollResult.Rx = None
+failed_poll (WlanPollResult.ConnectFailed f) = Some f
 
-abbrev pub failed_by : Success → ConnectFailure
-failed_by Success.Done = ConnectFailure.None
+abbrev pub failed_by : Success → Option WifiConnectFailure
+failed_by Success.Done = None
 failed_by (Success.Polled p) = failed_poll p
-failed_by (Success.Taken n) = ConnectFailure.None
-failed_by (Success.Mac n) = ConnectFailure.None
-failed_by (Success.Word n) = ConnectFailure.None
+failed_by (Success.Taken n) = None
+failed_by (Success.Mac n) = None
+failed_by (Success.Word n) = None
 
-abbrev pub failed_of : Outcome → ConnectFailure
-failed_of (Outcome.Ok x) = failed_by x
-failed_of (Outcome.Refused r) = ConnectFailure.None
+abbrev pub failed_of : Outcome → Option WifiConnectFailure
+failed_of (Ok x) = failed_by x
+failed_of (Err r) = None
 
 -- a frame's length, a word and a fault's place are u16, u32 and u8
 abbrev pub SuccessFits : Success → Type 0
@@ -68,8 +68,8 @@ SuccessFits (Success.Mac n) = Unit {0}
 SuccessFits (Success.Word n) = n < 4294967296
 
 abbrev pub Fits : Outcome → Type 0
-Fits (Outcome.Ok x) = SuccessFits x
-Fits (Outcome.Refused r) = refusal_value r < 256
+Fits (Ok x) = SuccessFits x
+Fits (Err r) = refusal_value r < 256
 
 -- a run that is not to be put back
 abbrev pub numbers : EndKind → ℕ → FailureParts → ℕ → RunEnd
@@ -88,9 +88,9 @@ pub record Tells (r : RunEnd) (o : Outcome) : Type 0 where
 -- ---- a poll's report
 
 abbrev pub unfailed : ℕ → PollReport
-unfailed v = record { value = v; failure = failure_parts ConnectFailure.None }
+unfailed v = record { value = v; failure = failure_parts None }
 
-abbrev pub failed_join : ConnectFailure → PollReport
+abbrev pub failed_join : Option WifiConnectFailure → PollReport
 failed_join f = record { value = 2; failure = failure_parts f }
 
 abbrev pub report_of : WlanPollResult → PollReport

@@ -1,10 +1,8 @@
 // How a call ended, as numbers that go through no memory in pieces.
 #![tactic(auto)]
 
-ghost use Rattle.std.specs.Prelude.{◌≡◌};
-ghost use Rattle.wlan.specs.declared.ConnectFailure.{ConnectFailure};
+ghost use Rattle.std.specs.Prelude.{◌≡◌, None, Ok, Err};
 ghost use Rattle.wlan.specs.declared.DriverError.{DriverError};
-ghost use Rattle.wlan.specs.declared.Outcome.{Outcome};
 ghost use Rattle.wlan.specs.declared.Refusal.{Refusal};
 ghost use Rattle.wlan.specs.declared.Success.{Success};
 ghost use Rattle.connect_failure.specs.Parts.{failure_parts};
@@ -12,7 +10,7 @@ ghost use Rattle.run_end.specs.declared.EndKind.{EndKind};
 ghost use Rattle.run_end.specs.RunEnd as to;
 
 use connect_failure::{FailureParts, failure_parts};
-use wlan::{ConnectFailure, DriverError, Success, WlanPollResult};
+use wlan::{DriverError, Success, WifiConnectFailure, WlanPollResult};
 
 // How a call ended, but for the numbers that go with it.
 #[derive(Clone, Copy)]
@@ -55,7 +53,7 @@ pub struct PollReport {
 }
 
 pub fn no_failure() -> FailureParts
-    ensures { result ≡ failure_parts ConnectFailure.None }
+    ensures { result ≡ failure_parts None }
 {
     FailureParts {
         tag: 0,
@@ -65,7 +63,7 @@ pub fn no_failure() -> FailureParts
 }
 
 fn value_end(kind: EndKind, v: u64, len: usize) -> RunEnd
-    ensures { result ≡ to.numbers kind v (failure_parts ConnectFailure.None) len }
+    ensures { result ≡ to.numbers kind v (failure_parts None) len }
 {
     RunEnd {
         back: false,
@@ -78,13 +76,13 @@ fn value_end(kind: EndKind, v: u64, len: usize) -> RunEnd
 
 // 7, with the fault's place.
 pub fn fault_end(place: u64, len: usize) -> RunEnd
-    ensures { result ≡ to.end_by (Outcome.Refused (Refusal.Driver (DriverError.Fault place))) len }
+    ensures { result ≡ to.end_by (Err (Refusal.Driver (DriverError.Fault place))) len }
 {
     value_end(EndKind::Fault, place, len)
 }
 
 pub fn error_end(e: DriverError, len: usize) -> RunEnd
-    ensures { (result ≡ to.end_by (Outcome.Refused (Refusal.Driver e)) len) × to.Fits (Outcome.Refused (Refusal.Driver e)) }
+    ensures { (result ≡ to.end_by (Err (Refusal.Driver e)) len) × to.Fits (Err (Refusal.Driver e)) }
 {
     match e {
         DriverError::InvalidArg => value_end(EndKind::InvalidArg, 0, len),
@@ -100,7 +98,7 @@ pub fn error_end(e: DriverError, len: usize) -> RunEnd
 }
 
 pub fn done_end(len: usize) -> RunEnd
-    ensures { result ≡ to.end_by (Outcome.Ok Success.Done) len }
+    ensures { result ≡ to.end_by (Ok Success.Done) len }
 {
     value_end(EndKind::Done, 0, len)
 }
@@ -129,7 +127,7 @@ pub fn unfailed(v: u64) -> PollReport
 }
 
 // A poll that reports f.
-pub fn failed_join(f: ConnectFailure) -> PollReport
+pub fn failed_join(f: Option<WifiConnectFailure>) -> PollReport
     ensures { result ≡ to.failed_join f }
 {
     PollReport {
@@ -144,12 +142,12 @@ fn report_of(p: WlanPollResult) -> PollReport
     match p {
         WlanPollResult::None => unfailed(0),
         WlanPollResult::Rx => unfailed(1),
-        WlanPollResult::ConnectFailed(f) => failed_join(ConnectFailure::Some(f)),
+        WlanPollResult::ConnectFailed(f) => failed_join(Some(f)),
     }
 }
 
 pub fn success_end(x: Success, len: usize) -> RunEnd
-    ensures { (result ≡ to.end_by (Outcome.Ok x) len) × to.Fits (Outcome.Ok x) }
+    ensures { (result ≡ to.end_by (Ok x) len) × to.Fits (Ok x) }
 {
     match x {
         Success::Done => done_end(len),

@@ -3,7 +3,6 @@ use mathlib.Core.Path.{◌≡◌, refl, ◌∙◌}
 use mathlib.Core.List.{List, []}
 use Prim.Native.Nat.{ℕ}
 use lib.ListN.{length, drop}
-use Rattle.wlan.specs.declared.Outcome.{Outcome}
 use Rattle.wlan.specs.declared.Refusal.{Refusal}
 use Rattle.wlan.specs.declared.ScanList.{ScanList}
 use Rattle.wlan.specs.declared.State.{State}
@@ -17,13 +16,14 @@ use Rattle.effects.specs.Args.{args_of}
 use Rattle.jobs.specs.Jobs.{Begun, Begins}
 use Rattle.going.specs.Onward as to
 use Rattle.going.proofs.Laws as law
+use Rattle.std.specs.Prelude.{Err}
 
 called_is : (c : Call) (w : World) (rec log : List ℕ) → to.called_by w rec log (call c w) ≡ called c w rec log []
 unfolding to.called_by called run_of
 called_is c w rec log = refl
 
 module _ (st : State) (buf : Bytes) (l : ScanList) (rec log : List ℕ) (c : Call) where
-  pub called-13 : (length buf ≡ 2048 → ⊥) → to.end_of (record { outcome = Outcome.Refused Refusal.BufferLength; st = st; list = l; len = 0 }) log buf [] ≡ called c (world st buf l) rec log []
+  pub called-13 : (length buf ≡ 2048 → ⊥) → to.end_of (record { outcome = Err Refusal.BufferLength; st = st; list = l; len = 0 }) log buf [] ≡ called c (world st buf l) rec log []
   called-13 h = law.called-13 (world st buf l) rec log (call c (world st buf l)) h ∙ called_is c (world st buf l) rec log
 
   -- what the first run went on to is the call

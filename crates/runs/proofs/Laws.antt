@@ -7,7 +7,6 @@ use native.Mathlib.Omega.{arith}
 use lib.ListN.{length, drop}
 use borrow.Author.Tests.{lt-leb}
 use Rattle.wlan.specs.declared.DriverError.{DriverError}
-use Rattle.wlan.specs.declared.Outcome.{Outcome}
 use Rattle.wlan.specs.declared.Refusal.{Refusal}
 use Rattle.wlan.specs.declared.State.{State}
 use Rattle.wlan.specs.declared.Success.{Success}
@@ -37,7 +36,7 @@ use Rattle.undo.specs.Undo.{Kept}
 use Rattle.turning.proofs.Laws.{stopped, returned}
 use Rattle.polls.proofs.Laws.{front_kept}
 use Rattle.starting.specs.declared.Start.{Start}
-use Rattle.starting.specs.Starting.{step_of, Starts}
+use Rattle.starting.specs.Starting.{job_of, step_of, Starts}
 use Rattle.places.specs.Places.{Holds}
 use Rattle.effects.specs.Args.{args_of}
 use Rattle.going.specs.Onward.{go}
@@ -47,6 +46,7 @@ use Rattle.run_end.specs.RunEnd as ending
 use Rattle.turning.specs.Turning as turning
 use Rattle.runs.specs.Runs as to
 use Rattle.runs.proofs.Called.{called-from}
+use Rattle.std.specs.Prelude.{Ok, Err}
 
 -- ---- a run's end
 
@@ -70,7 +70,7 @@ send-called i frame s rec log b hi hl h =
 
 -- ---- arguments that are refused
 
-pub refused-runs : (c : Call) (s rec log u : List ℕ) (b : Bytes) (r : RunEnd) → is_session s ≡ true → Kept u → length b ≡ 2048 → ((w : World) → call c w ≡ stop DriverError.InvalidArg w) → r ≡ ending.end_by (Outcome.Refused (Refusal.Driver DriverError.InvalidArg)) 0 → to.Runs c rec log log u u s s b b r
+pub refused-runs : (c : Call) (s rec log u : List ℕ) (b : Bytes) (r : RunEnd) → is_session s ≡ true → Kept u → length b ≡ 2048 → ((w : World) → call c w ≡ stop DriverError.InvalidArg w) → r ≡ ending.end_by (Err (Refusal.Driver DriverError.InvalidArg)) 0 → to.Runs c rec log log u u s s b b r
 unfolding call_tree laid_before laid_request laid_header laid_all list_heard list_at
 refused-runs c s rec log u b r k kept h d er =
     let w = turning.world_in s b in
@@ -89,13 +89,13 @@ long-frame i frame w h k = rw (h, lt-leb (length frame) 2030 k) refl
 
 -- b and d: the session's bytes before the call, and after what its start changed
 pub start-called : (c : Call) (first second : Bytes) (x : Start) (b d rec log : List ℕ) (buf : Bytes) → Starts c first second (session_in b).st (session_in d).st x → Holds d (with_state b (session_in d).st) → length buf ≡ 2048
-    → go (turning.world_in b buf) (drop 0 rec) log 0 (call_shown (args_of x.job first second) (step_of x (lens_of (args_of x.job first second)) (session_in d).st) (event_of [] 0) (turning.world_in d buf)) ≡ called c (turning.world_in b buf) rec log []
+    → go (turning.world_in b buf) (drop 0 rec) log 0 (call_shown (args_of (job_of x) first second) (step_of x (lens_of (args_of (job_of x) first second)) (session_in d).st) (event_of [] 0) (turning.world_in d buf)) ≡ called c (turning.world_in b buf) rec log []
 start-called c first second x b d rec log buf h s k =
     let l : (session_in d).list ≡ (session_in b).list = ap (λ (v : Session). v.list) s.back in
-    rw l (called-from (session_in b).st buf (session_in b).list rec log c (record { job = x.job; step = step_of x (lens_of (args_of x.job first second)) (session_in d).st }) first second k h)
+    rw l (called-from (session_in b).st buf (session_in b).list rec log c (record { job = job_of x; step = step_of x (lens_of (args_of (job_of x) first second)) (session_in d).st }) first second k h)
 
 pub start-runs : (c : Call) (first second : Bytes) (x : Start) (b d f rec log log' u v : List ℕ) (buf g : Bytes) (r : RunEnd) → is_session b ≡ true → Kept u → length buf ≡ 2048 → Starts c first second (session_in b).st (session_in d).st x → Holds d (with_state b (session_in d).st)
-    → ((e : World) → turning.Ends e (go e (drop 0 rec) log 0 (call_shown (args_of x.job first second) (step_of x (lens_of (args_of x.job first second)) (session_in d).st) (event_of [] 0) (turning.world_in d buf))) r log' f g)
+    → ((e : World) → turning.Ends e (go e (drop 0 rec) log 0 (call_shown (args_of (job_of x) first second) (step_of x (lens_of (args_of (job_of x) first second)) (session_in d).st) (event_of [] 0) (turning.world_in d buf))) r log' f g)
     → is_session f ≡ true → turning.KeptAll u v d f buf g → to.Runs c rec log log' u v b f buf g r
 start-runs c first second x b d f rec log log' u v buf g r hb hu k h s e hf kept =
     record {
@@ -108,10 +108,10 @@ pub same-holds : (b : List ℕ) → is_session b ≡ true → Holds b (with_stat
 same-holds b h = record { known = h; back = refl }
 
 module _ (a : Args) (e : World) (s : State) (ws log b : List ℕ) (buf : Bytes) where
-  pub done-ends : (r : RunEnd) → s ≡ (session_in b).st → r ≡ ending.end_by (Outcome.Ok Success.Done) 0 → turning.Ends e (go e ws log 0 (call_shown a (ends s false Before.None Ending.Done) (event_of [] 0) (turning.world_in b buf))) r log b buf
+  pub done-ends : (r : RunEnd) → s ≡ (session_in b).st → r ≡ ending.end_by (Ok Success.Done) 0 → turning.Ends e (go e ws log 0 (call_shown a (ends s false Before.None Ending.Done) (event_of [] 0) (turning.world_in b buf))) r log b buf
   unfolding call_tree laid_before laid_request laid_header laid_all list_heard list_at success_of
   done-ends r hs er = rw (hs, er) (returned e _ ws log b buf 0 refl tt)
 
-  pub refused-ends : (r : RunEnd) (x : DriverError) → s ≡ (session_in b).st → error_value x < 256 → r ≡ ending.end_by (Outcome.Refused (Refusal.Driver x)) 0 → turning.Ends e (go e ws log 0 (call_shown a (refuses s false Before.None x) (event_of [] 0) (turning.world_in b buf))) r log b buf
+  pub refused-ends : (r : RunEnd) (x : DriverError) → s ≡ (session_in b).st → error_value x < 256 → r ≡ ending.end_by (Err (Refusal.Driver x)) 0 → turning.Ends e (go e ws log 0 (call_shown a (refuses s false Before.None x) (event_of [] 0) (turning.world_in b buf))) r log b buf
   unfolding call_tree laid_before laid_request laid_header laid_all list_heard list_at
   refused-ends r x hs f er = rw (hs, er) (stopped e x ws log b buf 0 f)

@@ -7,7 +7,7 @@ ghost use Rattle.effects.specs.Args.{args_of};
 ghost use Rattle.jobs.specs.Jobs.{call_of};
 ghost use Rattle.session_bytes.specs.Session.{is_session, session_in};
 ghost use Rattle.going.specs.Onward.{go};
-ghost use Rattle.starting.specs.Starting.{step_of};
+ghost use Rattle.starting.specs.Starting.{job_of, step_of};
 ghost use Rattle.turning.specs.Turning as turning;
 ghost use Rattle.turning.specs.Turning.{world_in};
 ghost use Rattle.undo.specs.Undo.{Kept};
@@ -17,38 +17,34 @@ use exchange_call::exchange_run;
 use jobs::ExchangeCall;
 use jobs::jobs::{at_most, longest};
 use run_end::{RunEnd, done_end, error_end};
+use starting::Start;
 use starting::calls::start;
-use starting::{Start, StartKind};
 use turning::settle;
 use undo::keep_front;
+use wlan::{SessionBytes, UndoBytes, WorkBuffer};
 
 // From a call's beginning to its end.
 fn start_run(
     x: Start,
-    s: &mut [u8],
-    undo: &mut [u8],
+    s: &mut SessionBytes,
+    undo: &mut UndoBytes,
     rec: &[u32],
     log: &mut [u32],
-    buf: &mut [u8],
+    buf: &mut WorkBuffer,
     first: &[u8],
     second: &[u8],
 ) -> RunEnd
     requires s_value { is_session s.old ≡ true }
     requires kept_2 { Kept undo.old }
-    requires buf_len { length buf.old ≡ 2048 }
     requires second_len_bound { length first.now + length second.now < 60000 }
-    ensures on { (e : World) → turning.Ends e (go e (drop 0 rec.now) log.old 0 (call_shown (args_of x.job first.now second.now) (step_of x (lens_of (args_of x.job first.now second.now)) (session_in s.old).st) (event_of [] 0) (world_in s.old buf.old))) result log.new s.new buf.new }
+    ensures on { (e : World) → turning.Ends e (go e (drop 0 rec.now) log.old 0 (call_shown (args_of (job_of x) first.now second.now) (step_of x (lens_of (args_of (job_of x) first.now second.now)) (session_in s.old).st) (event_of [] 0) (world_in s.old buf.old))) result log.new s.new buf.new }
     ensures held { is_session s.new ≡ true }
     ensures kept { turning.KeptAll undo.old undo.new s.old s.new buf.old buf.new }
 {
-    let k = x.kind;
-    let j = x.job;
-    let g = x.stage;
-    let error = x.error;
-    match k {
-        StartKind::Exchange => exchange_run(j, g, s, undo, rec, log, buf, first, second),
-        StartKind::Done => done_end(0),
-        StartKind::Refused => error_end(error, 0),
+    match x {
+        Start::Exchange(j, g) => exchange_run(j, g, s, undo, rec, log, buf, first, second),
+        Start::Done => done_end(0),
+        Start::Refused(e) => error_end(e, 0),
     }
 }
 
@@ -57,15 +53,14 @@ fn call_exchanges(
     c: ExchangeCall,
     a: &[u8],
     b: &[u8],
-    s: &mut [u8],
-    undo: &mut [u8],
+    s: &mut SessionBytes,
+    undo: &mut UndoBytes,
     rec: &[u32],
     log: &mut [u32],
-    buf: &mut [u8],
+    buf: &mut WorkBuffer,
 ) -> RunEnd
     requires s_value { is_session s.old ≡ true }
     requires kept { Kept undo.old }
-    requires buf_len { length buf.old ≡ 2048 }
     ensures { to.Runs (call_of c a.now b.now) rec.now log.old log.new undo.old undo.new s.old s.new buf.old buf.new result }
 {
     let most = longest(c);
@@ -79,15 +74,13 @@ pub fn run_exchanges(
     c: ExchangeCall,
     a: &[u8],
     b: &[u8],
-    s: &mut [u8],
-    undo: &mut [u8],
+    s: &mut SessionBytes,
+    undo: &mut UndoBytes,
     rec: &[u32],
     log: &mut [u32],
-    buf: &mut [u8],
+    buf: &mut WorkBuffer,
 ) -> RunEnd
     requires s_value { is_session s.old ≡ true }
-    requires undo_len { length undo.old ≡ 3444 }
-    requires buf_len { length buf.old ≡ 2048 }
     ensures { to.Ran (call_of c a.now b.now) rec.now log.old log.new s.old s.new buf.old buf.new result }
 {
     keep_front(undo, s);

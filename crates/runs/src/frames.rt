@@ -12,21 +12,20 @@ use send_call::send_run;
 use straight_send::{goes_straight, send_straight};
 use turning::settle;
 use undo::keep_front;
-use wlan::DriverError;
+use wlan::{DriverError, SessionBytes, UndoBytes, WorkBuffer};
 
 // Arguments that are refused cost no operation.
 fn send_any(
     interface: u32,
     frame: &[u8],
-    s: &mut [u8],
-    undo: &mut [u8],
+    s: &mut SessionBytes,
+    undo: &mut UndoBytes,
     rec: &[u32],
     log: &mut [u32],
-    buf: &mut [u8],
+    buf: &mut WorkBuffer,
 ) -> RunEnd
     requires s_value { is_session s.old ≡ true }
     requires kept { Kept undo.old }
-    requires buf_len { length buf.old ≡ 2048 }
     ensures { to.Runs (Call.send_data interface frame.now) rec.now log.old log.new undo.old undo.new s.old s.new buf.old buf.new result }
 {
     if is_interface(interface) {
@@ -42,15 +41,13 @@ fn send_any(
 fn send_kept(
     interface: u32,
     frame: &[u8],
-    s: &mut [u8],
-    undo: &mut [u8],
+    s: &mut SessionBytes,
+    undo: &mut UndoBytes,
     rec: &[u32],
     log: &mut [u32],
-    buf: &mut [u8],
+    buf: &mut WorkBuffer,
 ) -> RunEnd
     requires s_value { is_session s.old ≡ true }
-    requires undo_len { length undo.old ≡ 3444 }
-    requires buf_len { length buf.old ≡ 2048 }
     ensures { to.Ran (Call.send_data interface frame.now) rec.now log.old log.new s.old s.new buf.old buf.new result }
 {
     keep_front(undo, s);
@@ -60,28 +57,23 @@ fn send_kept(
 }
 
 // Nothing refuses it any more.
-fn is_straight(interface: u32, frame: &[u8], s: &[u8], rec: &[u32], log: &[u32]) -> bool
+fn is_straight(interface: u32, frame: &[u8], s: &SessionBytes, rec: &[u32], log: &[u32]) -> bool
     requires { is_session s.now ≡ true }
     ensures { result ≡ true → (is_interface interface ≡ true) × Straight (length frame.now) s.now rec.now (length log.now) }
 {
-    if is_interface(interface) {
-        return goes_straight(frame, s, rec, log);
-    }
-    false
+    is_interface(interface) && goes_straight(frame, s, rec, log)
 }
 
 pub fn run_send(
     interface: u32,
     frame: &[u8],
-    s: &mut [u8],
-    undo: &mut [u8],
+    s: &mut SessionBytes,
+    undo: &mut UndoBytes,
     rec: &[u32],
     log: &mut [u32],
-    buf: &mut [u8],
+    buf: &mut WorkBuffer,
 ) -> RunEnd
     requires s_value { is_session s.old ≡ true }
-    requires undo_len { length undo.old ≡ 3444 }
-    requires buf_len { length buf.old ≡ 2048 }
     ensures { to.Ran (Call.send_data interface frame.now) rec.now log.old log.new s.old s.new buf.old buf.new result }
 {
     if is_straight(interface, frame, s, rec, log) {

@@ -8,17 +8,16 @@ use poll_call::poll_run;
 use run_end::RunEnd;
 use turning::settle;
 use undo::keep_front;
+use wlan::{SessionBytes, UndoBytes, WorkBuffer};
 
 pub fn run_poll(
-    s: &mut [u8],
-    undo: &mut [u8],
+    s: &mut SessionBytes,
+    undo: &mut UndoBytes,
     rec: &[u32],
     log: &mut [u32],
-    buf: &mut [u8],
+    buf: &mut WorkBuffer,
 ) -> RunEnd
     requires s_value { is_session s.old ≡ true }
-    requires undo_len { length undo.old ≡ 3444 }
-    requires buf_len { length buf.old ≡ 2048 }
     ensures { to.Ran (Call.wifi_poll) rec.now log.old log.new s.old s.new buf.old buf.new result }
 {
     keep_front(undo, s);

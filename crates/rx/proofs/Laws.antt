@@ -5,12 +5,13 @@ use mathlib.Core.Bool.{true, false}
 use lib.ListN.{take}
 use Rattle.wlan.specs.declared.Sdpcm.{Sdpcm}
 use Rattle.wlan.specs.declared.SdpcmPacket.{SdpcmPacket}
-use Rattle.wlan.specs.declared.Received.{Received}
 use Rattle.definition.specs.Bus.{Bytes}
 use Rattle.definition.specs.Packet.{size_in, channel_in, header_length_in, is_packet, accepted, payload_of, process_rx}
+use Rattle.std.specs.Prelude.{Ok}
+use Rattle.wlan.specs.Results.{Received}
 
 module _ (came : ℕ) (b : Bytes) (s : Sdpcm) where
-  pub process-not : (r : Received) → is_packet b ≡ false → r ≡ Received.Packet SdpcmPacket.None → record { sdpcm = s; received = r } ≡ process_rx came b s
+  pub process-not : (r : Received) → is_packet b ≡ false → r ≡ Ok SdpcmPacket.None → record { sdpcm = s; received = r } ≡ process_rx came b s
   unfolding process_rx
   process-not r p q = simp (p, q)
 

@@ -7,7 +7,7 @@ ghost use Rattle.rx.specs.Packets as to;
 
 use rx_header::{accepted, channel_in, is_packet, size_in};
 use rx_payload::{Packet, none, payload_of};
-use wlan::Sdpcm;
+use wlan::{Sdpcm, WorkBuffer};
 
 #[derive(Clone, Copy)]
 pub struct Processed {
@@ -16,8 +16,7 @@ pub struct Processed {
 }
 
 // How many bytes came is not consulted.
-pub fn sdpcm_process_rx_packet(came: u16, buf: &[u8], s: Sdpcm) -> Processed
-    requires { length buf.now ≡ 2048 }
+pub fn sdpcm_process_rx_packet(came: u16, buf: &WorkBuffer, s: Sdpcm) -> Processed
     ensures { to.rx_of result ≡ process_rx came buf.now s }
 {
     if is_packet(buf) {

@@ -2,13 +2,12 @@
 // What is handed on is flat, a kind beside plain numbers.
 #![tactic(auto)]
 
-ghost use Rattle.std.specs.Prelude.{◌≡◌, length, take};
-ghost use Rattle.wlan.specs.declared.Received as received;
+ghost use Rattle.std.specs.Prelude.{◌≡◌, length, take, Ok};
 ghost use Rattle.wlan.specs.declared.SdpcmPacket as packet;
 ghost use Rattle.definition.specs.Packet.{control_of, interface_of, data_of, event_at, payload_of};
 ghost use Rattle.rx_payload.specs.Packets as to;
 
-use wlan::Interface;
+use wlan::{Interface, WorkBuffer};
 
 #[derive(Clone, Copy)]
 pub enum PacketKind {
@@ -29,8 +28,9 @@ pub struct Packet {
     pub interface: Interface,
 }
 
+#[tactic(auto, unfolding(crate::specs::Packets::received_by))]
 pub fn none() -> Packet
-    ensures { to.received_of result ≡ received.Received.Packet packet.SdpcmPacket.None }
+    ensures { to.received_of result ≡ Ok packet.SdpcmPacket.None }
 {
     Packet {
         kind: PacketKind::None,
@@ -42,16 +42,16 @@ pub fn none() -> Packet
 }
 
 // h is the header length.
-fn control_of(buf: &[u8], size: u16, h: u8, id: u8) -> Packet
-    requires { length buf.now ≡ 2048 }
-    ensures { to.received_of result ≡ received.Received.Packet (control_of (take size buf.now) size h id) }
+#[tactic(auto, unfolding(definition::specs::Packet::control_of, crate::specs::Packets::received_by))]
+fn control_of(buf: &WorkBuffer, size: u16, h: u8, id: u8) -> Packet
+    ensures { to.received_of result ≡ Ok (control_of (take size buf.now) size h id) }
 {
-    let at = h as u16;
+    let at = u16::from(h);
     if size < at + 16 {
         return none();
     }
-    let i = h as usize;
-    if words::get_whole(buf, i + 8) / 65536 != id as u32 {
+    let i = usize::from(h);
+    if words::get_whole(buf, i + 8) / 65536 != u32::from(id) {
         return none();
     }
     Packet {
@@ -63,32 +63,27 @@ fn control_of(buf: &[u8], size: u16, h: u8, id: u8) -> Packet
     }
 }
 
+#[tactic(auto, unfolding(definition::specs::Packet::interface_of))]
 fn interface_of(n: u8) -> Interface
     ensures { result ≡ interface_of n }
 {
-    if n == 1 {
-        return Interface::Ap;
+    match n {
+        1 => Interface::Ap,
+        2 => Interface::P2p,
+        _ => Interface::Sta,
     }
-    if n == 2 {
-        return Interface::P2p;
-    }
-    Interface::Sta
 }
 
-fn data_of(buf: &[u8], size: u16, h: u8) -> Packet
-    requires { length buf.now ≡ 2048 }
-    ensures { to.received_of result ≡ received.Received.Packet (data_of (take size buf.now) size h) }
+#[tactic(auto, unfolding(definition::specs::Packet::data_of, crate::specs::Packets::received_by))]
+fn data_of(buf: &WorkBuffer, size: u16, h: u8) -> Packet
+    ensures { to.received_of result ≡ Ok (data_of (take size buf.now) size h) }
 {
-    let at = h as u16;
-    if size <= 16 {
+    let at = u16::from(h);
+    if size <= 16 || size < at + 4 {
         return none();
     }
-    if size < at + 4 {
-        return none();
-    }
-    let i = h as usize;
-    let words = words::wide(buf[i + 3]) as u16;
-    let p = at + 4 + 4 * words;
+    let i = usize::from(h);
+    let p = at + 4 + 4 * u16::from(buf[i + 3]);
     if size < p {
         return none();
     }
@@ -101,10 +96,11 @@ fn data_of(buf: &[u8], size: u16, h: u8) -> Packet
     }
 }
 
+#[tactic(auto, unfolding(definition::specs::Packet::event_at, crate::specs::Packets::received_by))]
 fn event_at(size: u16, h: u8) -> Packet
     ensures { to.received_of result ≡ event_at size h }
 {
-    let at = h as u16;
+    let at = u16::from(h);
     if size < at {
         return Packet {
             kind: PacketKind::HeaderBeyond,
@@ -124,8 +120,8 @@ fn event_at(size: u16, h: u8) -> Packet
 }
 
 // The packet by its channel.
-pub fn payload_of(buf: &[u8], size: u16, channel: u8, h: u8, id: u8) -> Packet
-    requires { length buf.now ≡ 2048 }
+#[tactic(auto, unfolding(definition::specs::Packet::payload_of))]
+pub fn payload_of(buf: &WorkBuffer, size: u16, channel: u8, h: u8, id: u8) -> Packet
     ensures { to.received_of result ≡ payload_of (take size buf.now) size channel h id }
 {
     match channel {

@@ -1,12 +1,23 @@
 -- Lists of records: what lies in a table.
 use mathlib.Core.Path.{◌≡◌, refl, sym, ap, ◌∙◌}
-use mathlib.Core.List.{List, [], ◌∷◌}
-use lib.ListN.{length}
+use mathlib.Core.List.{List, [], ◌∷◌, ◌++◌}
+use Prim.Native.Nat.{ℕ, ◌+◌, min}
+use native.Mathlib.Omega.{arith}
+use lib.ListN.{length, take, drop}
+use lib.Seq.{length-take-le}
 use Rattle.slices.specs.Over.{over}
-use Rattle.slices.proofs.Over.{over-whole}
+use Rattle.slices.proofs.Over.{over-whole, over-parts, over-enough}
 use Rattle.wlan.specs.declared.ScanRecord.{ScanRecord}
 use Rattle.wlan.specs.declared.ScanList.{ScanList}
 use Rattle.scan_table.specs.Table.{empty_records, list_of, laid}
+
+-- as much of s as fits stands over the front of d
+pub front_laid : {A : Type 0} (d s : List A) (n : ℕ) → n ≡ min (length s) (length d) → take n s ++ drop n d ≡ over d 0 s
+front_laid d s n e =
+    let l : length (take n s) ≡ n = length-take-le n s (omega arith) in
+    let p : over d 0 (take n s) ≡ take n s ++ drop (0 + length (take n s)) d = over-parts d 0 (take n s) (omega arith) in
+    let m : 0 + length (take n s) ≡ n = omega arith in
+    sym (rw m at p) ∙ over-enough d 0 s n (omega arith)
 
 -- what was taken from a table, laid back, leaves it as it was
 pub laid-back : (ys z : List ScanRecord) → over ys 0 (over z 0 ys) ≡ ys

@@ -1,5 +1,5 @@
 // A scan list by value, record by record.
-ghost use Rattle.std.specs.Prelude.{◌≡◌, List, ℕ, min, get_or, set};
+ghost use Rattle.std.specs.Prelude.{◌≡◌, List, ℕ};
 ghost use Rattle.wlan.specs.declared.ScanRecord as declared;
 ghost use Rattle.definition.specs.Scan.{cleared};
 ghost use Rattle.scan_table.specs.Table.{empty_record, empty_records, list_of};
@@ -24,37 +24,8 @@ pub fn empty_list(count: usize) -> ScanList
     let none = empty_record();
     ScanList {
         records: [none; 32],
-        count: count,
+        count,
     }
-}
-
-// The list with r at index i; as it was where there is no such index.
-pub fn with_record(l: ScanList, i: usize, r: ScanRecord) -> ScanList
-    ensures { (result.records ≡ set l.records i r) × (result.count ≡ l.count) }
-{
-    if i < 32 {
-        let mut t = l;
-        t.records[i] = r;
-        return t;
-    }
-    l
-}
-
-// The record at index i, empty where there is no such index.
-pub fn record_of(l: ScanList, i: usize) -> ScanRecord
-    ensures { result ≡ get_or l.records i empty_record }
-{
-    if i < 32 {
-        let records = l.records;
-        return records[i];
-    }
-    empty_record()
-}
-
-pub fn at_most_32(n: usize) -> usize
-    ensures { result ≡ min n 32 }
-{
-    if n < 32 { n } else { 32 }
 }
 
 // A cleared list's count: its records are left.

@@ -3,7 +3,7 @@ ghost use Rattle.std.specs.Prelude.{◌≡◌, get_or};
 ghost use Rattle.definition.specs.Scan as def;
 ghost use Rattle.scan_table.specs.Table.{empty_record, list_of, laid};
 
-use crate::list::{at_most_32, empty_list, empty_record, record_of, with_record};
+use crate::list::{empty_list, empty_record};
 use events::scan::heard;
 use wlan::{ScanList, ScanRecord};
 
@@ -11,36 +11,25 @@ use wlan::{ScanList, ScanRecord};
 pub fn record_at(table: &[ScanRecord], i: usize) -> ScanRecord
     ensures { result ≡ get_or table.now i empty_record }
 {
-    let mut r = empty_record();
-    if i < table.len() {
-        r = table[i];
-    }
-    r
+    table.get(i).copied().unwrap_or(empty_record())
 }
 
 // The table's first 32 records as a list.
 pub fn list_in(table: &[ScanRecord], count: usize) -> ScanList
     ensures { result ≡ list_of table.now count }
 {
-    let mut l = empty_list(count);
-    let mut i = 0;
-    while i < table.len() {
-        l = with_record(l, i, table[i]);
-        i += 1;
-    }
-    l
+    let mut records = empty_list(count).records;
+    let n = table.len().min(records.len());
+    records[..n].copy_from_slice(&table[..n]);
+    ScanList { records, count }
 }
 
 // Lays a list's records in the table, as much as fits.
 pub fn put_list(table: &mut [ScanRecord], l: ScanList)
     ensures { table.new ≡ laid table.old l }
 {
-    let n = at_most_32(table.len());
-    let mut i = 0;
-    while i < n {
-        table[i] = record_of(l, i);
-        i += 1;
-    }
+    let n = l.records.len().min(table.len());
+    table[..n].copy_from_slice(&l.records[..n]);
 }
 
 // Adds a record that was heard, unless its network is known or the list is full; gives the new count.

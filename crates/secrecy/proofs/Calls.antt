@@ -10,12 +10,9 @@ use lib.ListN.{length, get_or, replicate, length-append, get_or-append}
 use lib.Seq.{get_or-append-add}
 use Rattle.slices.specs.Le.{le16, le32_at}
 use Rattle.wlan.specs.State.{with_scan, with_pending, with_link, set_frame, set_failure, set_link_state, set_auth, set_tick}
-use Rattle.wlan.specs.declared.ConnectFailure.{ConnectFailure}
-use Rattle.wlan.specs.declared.StartedTick.{StartedTick}
 use Rattle.wlan.specs.declared.WifiAuth.{WifiAuth}
 use Rattle.wlan.specs.declared.WifiState.{WifiState}
 use Rattle.wlan.specs.declared.Success.{Success}
-use Rattle.wlan.specs.declared.PendingRx.{PendingRx}
 use Rattle.definition.specs.Bus.{Bytes, Place, nowhere}
 use Rattle.definition.specs.Prog.{Note, Fin, fine, failed, M, ◌>>◌, pause}
 use Rattle.definition.specs.Packet.{data_part}
@@ -32,6 +29,8 @@ use Rattle.secrecy.proofs.Twin.{FrameAlike, Twin, left, right, On, twin-over, tw
 use Rattle.secrecy.proofs.Related.{o-same, Related, r-ret, r-stop, r-note, r-bind, r-weaken, r-attempt, r-pick, r-operate, r-pause}
 use Rattle.secrecy.proofs.Send.{Open, Kept, send_common-rel}
 use Rattle.secrecy.proofs.Exchange.{Any, do_ioctl-rel, exchange-rel, poll-rel}
+use Rattle.std.specs.Prelude.{Option, Some, None}
+use Rattle.wlan.specs.declared.PendingBuf.{PendingBuf}
 
 -- a part of a call goes alike
 abbrev Goes : {A : Type 0} → M A → M A → Type 1
@@ -179,7 +178,7 @@ join-rel auth ssid p p' e τ =
     r-pick (ltb auth 6) (λ u. if_down-rel _ _ τ.st.link.state (λ σ. joined-rel (auth_of auth) ssid p p' e (unfailing σ)) τ) (λ u. r-stop τ)
   where
     unfailing : Twin → Twin
-    unfailing σ = twin-moved σ (with_link σ.st (set_failure σ.st.link ConnectFailure.None)) σ.list σ.waiting
+    unfailing σ = twin-moved σ (with_link σ.st (set_failure σ.st.link None)) σ.list σ.waiting
 
 -- ---- the other calls
 
@@ -214,7 +213,7 @@ disconnect-rel : Goes disconnect disconnect
 unfolding disconnect
 disconnect-rel =
     then _ _ _ (λ τ. r-bind {P = Any} _ _ (r-operate τ o-same (λ n. tt))
-    (λ t σ i. r-ret (twin-moved σ (with_link σ.st (set_tick (set_link_state σ.st.link WifiState.Disconnecting) (StartedTick.Some t))) σ.list σ.waiting) tt))
+    (λ t σ i. r-ret (twin-moved σ (with_link σ.st (set_tick (set_link_state σ.st.link WifiState.Disconnecting) (Some t))) σ.list σ.waiting) tt))
 
 send-rel : (i : ℕ) (frame : Bytes) → Goes (send i frame) (send i frame)
 unfolding send data_part twin-over
@@ -227,15 +226,15 @@ send-rel i frame τ =
     by j h (inl l) = (twin-over 12 (data_part i frame) τ).front j (omega arith)
     by j h (inr l) = over-made 12 (data_part i frame) τ j l (omega arith)
 
-taken-rel : (n : ℕ) (x : PendingRx) (τ : Twin) → FrameAlike x τ.one τ.two → Related Any (taken n x (left τ)) (taken n x (right τ))
+taken-rel : (n : ℕ) (x : Option PendingBuf) (τ : Twin) → FrameAlike x τ.one τ.two → Related Any (taken n x (left τ)) (taken n x (right τ))
 unfolding taken
-taken-rel n PendingRx.None τ h = r-stop τ
-taken-rel n (PendingRx.Some f) τ h =
+taken-rel n None τ h = r-stop τ
+taken-rel n (Some f) τ h =
     rw (← part-alike τ.one τ.two f.offset f.len τ.size h)
     (r-pick (ltb n f.len) (λ e. r-stop σ) (λ e. r-pick (ltb 2048 (f.offset + f.len)) (λ e. r-stop σ) (λ e. r-ret σ tt)))
   where
     σ : Twin
-    σ = twin-moved τ (with_pending τ.st (set_frame τ.st.pending PendingRx.None)) τ.list (record { frame = tt; reply = τ.waiting.reply })
+    σ = twin-moved τ (with_pending τ.st (set_frame τ.st.pending None)) τ.list (record { frame = tt; reply = τ.waiting.reply })
 
 gpio-rel : (pin level : ℕ) → Goes (gpio pin level) (gpio pin level)
 unfolding gpio

@@ -12,7 +12,6 @@ use Rattle.slices.specs.Le.{le32, round4}
 use Rattle.slices.proofs.Over.{length_part}
 use Rattle.wlan.specs.State.{with_sdpcm, set_mark}
 use Rattle.wlan.specs.declared.Sdpcm.{Sdpcm}
-use Rattle.wlan.specs.declared.Received.{Received}
 use Rattle.wlan.specs.declared.RxPacket.{RxPacket}
 use Rattle.wlan.specs.declared.SdpcmPacket.{SdpcmPacket}
 use Rattle.definition.specs.Bus.{Bytes, Op, Ans, fault, val}
@@ -23,6 +22,9 @@ use Rattle.secrecy.proofs.Bufs.{Alike, Part}
 use Rattle.secrecy.proofs.Twin.{Twin, left, right, On, twin-over, twin-moved, over-on, over-made}
 use Rattle.secrecy.proofs.Packets.{Below, ReadBelow, process-below, process-same}
 use Rattle.secrecy.proofs.Related.{Fits, o-same, Related, r-ret, r-stop, r-ask, r-say, r-note, r-bind, r-pick, r-valued, r-operate}
+use Rattle.std.specs.Prelude.{Ok, Err}
+use Rattle.wlan.specs.Results.{Received}
+use Rattle.wlan.specs.declared.RxError.{RxError}
 
 -- what a packet holds lies in bytes that are alike
 abbrev pub Lies : SdpcmPacket → Twin → Type 0
@@ -44,8 +46,8 @@ module _ (S : ℕ → Type 0) where
 
   packet_in-rel : (n : ℕ) (r : Received) (τ : Twin) → On S τ → ReadBelow n r → ((i : ℕ) → i < n → Alike τ.one τ.two i) → Related Polled (packet_in r (left τ)) (packet_in r (right τ))
   unfolding packet_in
-  packet_in-rel n (Received.Packet p) τ s h f = r-ret τ (s, lies n p τ h f)
-  packet_in-rel n Received.HeaderBeyond τ s h f = r-stop τ
+  packet_in-rel n (Ok p) τ s h f = r-ret τ (s, lies n p τ h f)
+  packet_in-rel n (Err RxError.HeaderBeyond) τ s h f = r-stop τ
 
   abbrev with_sd : Sdpcm → Twin → Twin
   with_sd x τ = twin-moved τ (with_sdpcm τ.st x) τ.list τ.waiting

@@ -11,11 +11,13 @@ use Rattle.slices.specs.Le.{le32_at}
 use Rattle.slices.proofs.Pick.{by-pick}
 use Rattle.wlan.specs.declared.Sdpcm.{Sdpcm}
 use Rattle.wlan.specs.declared.SdpcmPacket.{SdpcmPacket}
-use Rattle.wlan.specs.declared.Received.{Received}
 use Rattle.wlan.specs.declared.RxPacket.{RxPacket}
 use Rattle.definition.specs.Bus.{Bytes}
 use Rattle.definition.specs.Packet.{size_in, right_complement, is_packet, declared, accepted, control_of, data_of, event_at, payload_of, channel_in, header_length_in, process_rx}
 use Rattle.secrecy.proofs.Bufs.{Alike, take-alike}
+use Rattle.std.specs.Prelude.{Ok, Err}
+use Rattle.wlan.specs.Results.{Received}
+use Rattle.wlan.specs.declared.RxError.{RxError}
 
 -- what a packet holds lies below n
 abbrev pub Below : ℕ → SdpcmPacket → Type 0
@@ -25,8 +27,8 @@ Below n (SdpcmPacket.AsyncEvent offset len) = offset + len ≤ n
 Below n (SdpcmPacket.Data offset len interface) = offset + len ≤ n
 
 abbrev pub ReadBelow : ℕ → Received → Type 0
-ReadBelow n (Received.Packet p) = Below n p
-ReadBelow n Received.HeaderBeyond = Unit {0}
+ReadBelow n (Ok p) = Below n p
+ReadBelow n (Err RxError.HeaderBeyond) = Unit {0}
 
 control-below : (v : Bytes) (size h id : ℕ) → Below size (control_of v size h id)
 unfolding control_of
@@ -71,4 +73,4 @@ pub process-same : (came : ℕ) (b b' : Bytes) (s : Sdpcm) → length b ≡ leng
 unfolding process_rx accepted
 process-same came b b' s e f g =
     rw (← f 0 (omega arith), ← f 1 (omega arith), ← f 2 (omega arith), ← f 3 (omega arith), ← f 5 (omega arith), ← f 7 (omega arith), ← f 8 (omega arith), ← f 9 (omega arith))
-    (pick_same (is_packet b) (record { sdpcm = s; received = Received.Packet SdpcmPacket.None }) (λ u. rw (take-alike b b' (size_in b) e (λ i l. g i (rw (declared-is b u) l)))))
+    (pick_same (is_packet b) (record { sdpcm = s; received = Ok SdpcmPacket.None }) (λ u. rw (take-alike b b' (size_in b) e (λ i l. g i (rw (declared-is b u) l)))))

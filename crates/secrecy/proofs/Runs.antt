@@ -9,7 +9,6 @@ use lib.ListN.{length, length-append}
 use Rattle.slices.specs.Pick.{pick}
 use Rattle.slices.proofs.Le.{length-packed}
 use Rattle.wlan.specs.declared.DriverError.{DriverError}
-use Rattle.wlan.specs.declared.Outcome.{Outcome}
 use Rattle.wlan.specs.declared.Refusal.{Refusal}
 use Rattle.definition.specs.Bus.{Bytes, Op, words_of, log_of, Answer, answers, Ans, Taken, got, wrong, taken_by}
 use Rattle.definition.specs.Prog.{Note, Prog}
@@ -22,6 +21,7 @@ use Rattle.secrecy.proofs.Related.{Holds, Fits, SameOp, o-same, o-write, Related
 use Rattle.secrecy.proofs.Exchange.{Any, body-rel}
 use Rattle.secrecy.proofs.Calls.{call-rel}
 use Rattle.secrecy.proofs.Answers.{Whole, AllWhole, answers-whole, TakenFits, taken-fits, taken-same}
+use Rattle.wlan.specs.Results.{Outcome}
 
 -- both premises hold of a history
 abbrev pub AllHold : List Note → Type 0

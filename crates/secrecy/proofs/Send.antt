@@ -15,7 +15,6 @@ use Rattle.slices.specs.Pick.{pick}
 use Rattle.slices.specs.Over.{over}
 use Rattle.slices.specs.Le.{round4}
 use Rattle.wlan.specs.State.{with_sdpcm, with_pending, with_scan, with_link, set_seq, set_reply}
-use Rattle.wlan.specs.declared.PendingResp.{PendingResp}
 use Rattle.wlan.specs.declared.AsyncEvent.{AsyncEvent}
 use Rattle.wlan.specs.declared.SdpcmPacket.{SdpcmPacket}
 use Rattle.definition.specs.Bus.{Bytes, Place, Op}
@@ -28,6 +27,7 @@ use Rattle.secrecy.proofs.Bufs.{Alike, Part, part-alike, blotted-same}
 use Rattle.secrecy.proofs.Twin.{Twin, left, right, On, twin-over, twin-moved, over-on}
 use Rattle.secrecy.proofs.Related.{SameOp, o-same, o-write, BackP, TurnP, Related, r-ret, r-stop, r-say, r-loop, r-note, r-bind, r-weaken, r-pick, r-raise, r-operate}
 use Rattle.secrecy.proofs.Device.{Lies}
+use Rattle.std.specs.Prelude.{Some}
 
 -- ---- events
 
@@ -128,7 +128,7 @@ module _ (S : ℕ → Type 0) where
   -- a stored reply lies in bytes that are alike
   abbrev pub stored : (offset len : ℕ) (status : ℤ) (τ : Twin) → Part offset len τ.one τ.two → Twin
   stored offset len status τ l =
-      twin-moved τ (with_pending τ.st (set_reply τ.st.pending (PendingResp.Some (response_of offset len status)))) τ.list
+      twin-moved τ (with_pending τ.st (set_reply τ.st.pending (Some (response_of offset len status)))) τ.list
       (record { frame = τ.waiting.frame; reply = l })
 
   pub stall_turn-rel : (t0 : ℕ) (p : SdpcmPacket) (τ : Twin) → On S τ → Lies p τ → Related (Turned (Loop.stall_loop t0)) (stall_turn t0 p (left τ)) (stall_turn t0 p (right τ))

@@ -6,23 +6,24 @@ use native.Mathlib.Omega.{arith}
 use lib.ListN.{length}
 use Rattle.slices.specs.Over.{over}
 use Rattle.wlan.specs.declared.Pending.{Pending}
-use Rattle.wlan.specs.declared.PendingResp.{PendingResp}
-use Rattle.wlan.specs.declared.PendingRx.{PendingRx}
 use Rattle.wlan.specs.declared.ScanList.{ScanList}
 use Rattle.wlan.specs.declared.State.{State}
 use Rattle.definition.specs.Bus.{Bytes}
 use Rattle.definition.specs.Prog.{World, world}
 use Rattle.definition.specs.Join.{frame_waits, reply_waits}
 use Rattle.secrecy.proofs.Bufs.{Alike, Part, over-size, over-alike, over-keeps, over-makes}
+use Rattle.std.specs.Prelude.{Option, Some, None}
+use Rattle.wlan.specs.declared.PendingIoctlResp.{PendingIoctlResp}
+use Rattle.wlan.specs.declared.PendingBuf.{PendingBuf}
 
 -- what waits is alike in both
-abbrev pub FrameAlike : PendingRx → Bytes → Bytes → Type 0
-FrameAlike PendingRx.None b b' = Unit {0}
-FrameAlike (PendingRx.Some f) b b' = Part f.offset f.len b b'
+abbrev pub FrameAlike : Option PendingBuf → Bytes → Bytes → Type 0
+FrameAlike None b b' = Unit {0}
+FrameAlike (Some f) b b' = Part f.offset f.len b b'
 
-abbrev pub ReplyAlike : PendingResp → Bytes → Bytes → Type 0
-ReplyAlike PendingResp.None b b' = Unit {0}
-ReplyAlike (PendingResp.Some r) b b' = Part r.buf.offset r.buf.len b b'
+abbrev pub ReplyAlike : Option PendingIoctlResp → Bytes → Bytes → Type 0
+ReplyAlike None b b' = Unit {0}
+ReplyAlike (Some r) b b' = Part r.buf.offset r.buf.len b b'
 
 pub record Waiting (p : Pending) (b b' : Bytes) : Type 0 where
   pub frame : FrameAlike p.rx b b'
@@ -53,13 +54,13 @@ On S τ = (i : ℕ) → S i → Alike τ.one τ.two i
 abbrev pub Better : Bytes → Bytes → Bytes → Bytes → Type 0
 Better b b' c c' = (i : ℕ) → Alike b b' i → Alike c c' i
 
-pub frame-better : (x : PendingRx) (b b' c c' : Bytes) → Better b b' c c' → FrameAlike x b b' → FrameAlike x c c'
-frame-better PendingRx.None b b' c c' g h = tt
-frame-better (PendingRx.Some f) b b' c c' g h = λ i u v. g i (h i u v)
+pub frame-better : (x : Option PendingBuf) (b b' c c' : Bytes) → Better b b' c c' → FrameAlike x b b' → FrameAlike x c c'
+frame-better None b b' c c' g h = tt
+frame-better (Some f) b b' c c' g h = λ i u v. g i (h i u v)
 
-pub reply-better : (x : PendingResp) (b b' c c' : Bytes) → Better b b' c c' → ReplyAlike x b b' → ReplyAlike x c c'
-reply-better PendingResp.None b b' c c' g h = tt
-reply-better (PendingResp.Some r) b b' c c' g h = λ i u v. g i (h i u v)
+pub reply-better : (x : Option PendingIoctlResp) (b b' c c' : Bytes) → Better b b' c c' → ReplyAlike x b b' → ReplyAlike x c c'
+reply-better None b b' c c' g h = tt
+reply-better (Some r) b b' c c' g h = λ i u v. g i (h i u v)
 
 -- the same bytes laid into both
 unfoldable pub twin-over : ℕ → Bytes → Twin → Twin
@@ -82,15 +83,15 @@ abbrev pub twin-moved : (τ : Twin) (s : State) (l : ScanList) → Waiting s.pen
 twin-moved τ s l w = record { st = s; list = l; one = τ.one; two = τ.two; size = τ.size; front = τ.front; waiting = w }
 
 -- nothing waits
-pub frame-none : (x : PendingRx) (b b' : Bytes) → frame_waits x ≡ false → FrameAlike x b b'
+pub frame-none : (x : Option PendingBuf) (b b' : Bytes) → frame_waits x ≡ false → FrameAlike x b b'
 unfolding frame_waits
-frame-none PendingRx.None b b' e = tt
-frame-none (PendingRx.Some f) b b' e = absurd (true≢false e)
+frame-none None b b' e = tt
+frame-none (Some f) b b' e = absurd (true≢false e)
 
-pub reply-none : (x : PendingResp) (b b' : Bytes) → reply_waits x ≡ false → ReplyAlike x b b'
+pub reply-none : (x : Option PendingIoctlResp) (b b' : Bytes) → reply_waits x ≡ false → ReplyAlike x b b'
 unfolding reply_waits
-reply-none PendingResp.None b b' e = tt
-reply-none (PendingResp.Some r) b b' e = absurd (true≢false e)
+reply-none None b b' e = tt
+reply-none (Some r) b b' e = absurd (true≢false e)
 
 -- other bytes laid into each from 28 on, while nothing waits
 unfoldable pub twin-key : (s s' : Bytes) (τ : Twin) → length s ≡ length s' → frame_waits τ.st.pending.rx ≡ false → reply_waits τ.st.pending.ioctl_resp ≡ false → Twin

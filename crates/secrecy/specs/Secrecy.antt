@@ -3,7 +3,6 @@ use Rattle.std.specs.Prelude.{◌≡◌, Bool, false, ◌&&◌, ◌||◌, List, 
 use Rattle.slices.specs.Pick.{pick}
 use Rattle.slices.specs.Over.{over}
 use Rattle.wlan.specs.State.{fresh}
-use Rattle.wlan.specs.declared.Outcome.{Outcome}
 use Rattle.wlan.specs.declared.ScanList.{ScanList}
 use Rattle.wlan.specs.declared.State.{State}
 use Rattle.definition.specs.Bus.{Bytes, Place, Op, log_of}
@@ -11,6 +10,7 @@ use Rattle.definition.specs.Prog.{World, world, Note}
 use Rattle.definition.specs.Packet.{size_in}
 use Rattle.definition.specs.Calls.{Call}
 use Rattle.definition.specs.History.{Given, end_of, history_of, next}
+use Rattle.wlan.specs.Results.{Outcome}
 
 -- ---- what two runs are given
 

@@ -26,7 +26,6 @@ use Rattle.device.proofs.Bridge.{poll-is, poll-tells}
 use Rattle.send.specs.declared.OutPacket.{OutPacket}
 use Rattle.send.specs.declared.StallPoint.{StallPoint}
 use Rattle.send.specs.declared.SendPoint.{SendPoint}
-use Rattle.send.specs.declared.HeaderPut.{HeaderPut}
 use Rattle.send.specs.declared.SendNext.{SendNext}
 use Rattle.send.specs.declared.SendStep.{SendStep}
 use Rattle.send.specs.Send.{stall_op, send_op, step, asks, refuses, spending, put_of, emit_step, test_step, start_step, polling_step, stored, packet_step, stall_next, stall_poll, late_step, at_first, at_late, stall_answer, ready_step, at_ready, at_writing, send_answer}

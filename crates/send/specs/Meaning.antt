@@ -1,5 +1,5 @@
 -- The tree that each point of a send stands for, and what a step lays.
-use Rattle.std.specs.Prelude.{ℕ, Bool, true, false, List, [], take, ◌==◌, bit_and}
+use Rattle.std.specs.Prelude.{ℕ, Bool, true, false, List, [], take, ◌==◌, bit_and, Option, None, Some}
 use Rattle.slices.specs.Pick.{pick}
 use Rattle.slices.specs.Over.{over}
 use Rattle.wlan.specs.declared.AsyncEvent.{AsyncEvent}
@@ -12,15 +12,15 @@ use Rattle.device.specs.Meaning.{op_in, asking, told, landing, arrival_at, Kp}
 use Rattle.send.specs.declared.OutPacket.{OutPacket}
 use Rattle.send.specs.declared.StallPoint.{StallPoint}
 use Rattle.send.specs.declared.SendPoint.{SendPoint}
-use Rattle.send.specs.declared.HeaderPut.{HeaderPut}
 use Rattle.send.specs.declared.SendNext.{SendNext}
 use Rattle.send.specs.declared.SendStep.{SendStep}
 use Rattle.send.specs.Send.{send_op, send_answer}
+use Rattle.send.specs.declared.Header.{Header}
 
 -- what a header put does to the work buffer
-unfoldable pub laid_header : HeaderPut → Bytes → Bytes
-laid_header HeaderPut.None b = b
-laid_header (HeaderPut.Header size seq channel) b = over b 0 (header size seq channel)
+unfoldable pub laid_header : Option Header → Bytes → Bytes
+laid_header None b = b
+laid_header (Some h) b = over b 0 (header h.size h.seq h.channel)
 
 -- what follows an ended part, told apart from what follows a refused one
 abbrev pub past : {A B : Type 0} → (A → World → Prog B) → Fin A → World → Prog B

@@ -12,10 +12,8 @@ use Rattle.slices.specs.Pick.{pick}
 use Rattle.slices.specs.Over.{over}
 use Rattle.slices.specs.Le.{round4}
 use Rattle.wlan.specs.declared.AsyncEvent.{AsyncEvent}
-use Rattle.wlan.specs.declared.BusAnswer.{BusAnswer}
 use Rattle.wlan.specs.declared.BusOp.{BusOp}
 use Rattle.wlan.specs.declared.DriverError.{DriverError}
-use Rattle.wlan.specs.declared.Outcome.{Outcome}
 use Rattle.wlan.specs.declared.State.{State}
 use Rattle.wlan.specs.declared.Success.{Success}
 use Rattle.definition.specs.Bus.{Bytes, Ans, Place, fault, val}
@@ -28,7 +26,6 @@ use Rattle.definition.specs.Run.{End}
 use Rattle.handling.specs.Handle.{list_heard}
 use Rattle.device.specs.declared.Arrival.{Arrival}
 use Rattle.device.specs.Meaning.{op_in, asking, told, landing, InRange, arrival_at}
-use Rattle.send.specs.declared.HeaderPut.{HeaderPut}
 use Rattle.send.specs.declared.OutPacket.{OutPacket}
 use Rattle.send.specs.declared.SendNext.{SendNext}
 use Rattle.send.specs.declared.SendPoint.{SendPoint}
@@ -66,6 +63,9 @@ use Rattle.turning.proofs.Laws as law
 use Rattle.run_end.specs.declared.RunEnd.{RunEnd}
 use Rattle.send_call.specs.declared.SendTurned.{SendTurned}
 use Rattle.send_call.specs.SendCall as to
+use Rattle.std.specs.Prelude.{Option, Ok, Err}
+use Rattle.send.specs.declared.Header.{Header}
+use Rattle.wlan.specs.Results.{fault_at}
 
 -- ---- the frame
 
@@ -83,7 +83,7 @@ frame-covered {u} {v} {c} {f} i frame z k m s e hc hf l =
 
 -- ---- the end
 
-pub sent-ends : (frame : Bytes) (e : World) (ws log b : List ℕ) (buf : Bytes) (len : ℕ) → turning.Ends e (go e ws log len (call_tree (to.args_in frame) (CallNext.Ended Ending.Done) (turning.world_in b buf))) (ending.end_by (Outcome.Ok Success.Done) len) log b buf
+pub sent-ends : (frame : Bytes) (e : World) (ws log b : List ℕ) (buf : Bytes) (len : ℕ) → turning.Ends e (go e ws log len (call_tree (to.args_in frame) (CallNext.Ended Ending.Done) (turning.world_in b buf))) (ending.end_by (Ok Success.Done) len) log b buf
 unfolding call_tree success_of
 sent-ends frame e ws log b buf len = law.returned e _ ws log b buf len refl tt
 
@@ -95,14 +95,14 @@ next_in (SendNext.Ask h q) = CallNext.Ask (CallPoint.Send q)
 next_in SendNext.Sent = CallNext.Ended Ending.Done
 next_in (SendNext.Refused h e) = CallNext.Refused e
 
-next-is : (k : SentKind) (r : SendNow) (h : HeaderPut) {n : SendNext} → next_by k r h ≡ n → to.call_by k r ≡ next_in n
+next-is : (k : SentKind) (r : SendNow) (h : Option Header) {n : SendNext} → next_by k r h ≡ n → to.call_by k r ≡ next_in n
 unfolding next_by next_in to.call_by
 next-is SentKind.Ask r h e = rw (← e) refl
 next-is SentKind.Sent r h e = rw (← e) refl
 next-is SentKind.Refused r h e = rw (← e) refl
 
 -- a wait has no fault
-not-wait : (op : BusOp) (y : Ans) (v : ℕ) → InRange op y → BusAnswer.Fault v ≡ told y → is_wait op ≡ false
+not-wait : (op : BusOp) (y : Ans) (v : ℕ) → InRange op y → Err (fault_at v) ≡ told y → is_wait op ≡ false
 unfolding is_wait InRange told
 not-wait BusOp.ReadInterrupt y v i h = refl
 not-wait BusOp.ReadStatus y v i h = refl
@@ -170,28 +170,28 @@ module _ (frame : Bytes) where
         ap (λ t. go e ws log len t) (rw (hs, hb) (sym (call-is a (omega arith) (CallPoint.Send q) y (turning.world_in b b₀) i)))
         ∙ go-unroll e ws log len (Kc a (CallPoint.Send q) y (turning.world_in b b₀))
 
-    pub send-steps : {u w b d : List ℕ} {f : Bytes} {r : SendNow} (v : ℕ) → BusAnswer.Value v ≡ told y
-        → Sends u w b d buf f r (arrived (session_in b).st).event (send.send_answer (session_in b).st out q (BusAnswer.Value v) (arrived (session_in b).st))
+    pub send-steps : {u w b d : List ℕ} {f : Bytes} {r : SendNow} (v : ℕ) → Ok v ≡ told y
+        → Sends u w b d buf f r (arrived (session_in b).st).event (send.send_answer (session_in b).st out q (Ok v) (arrived (session_in b).st))
         → go e ws log len (call_tree a (to.call_now r) (turning.world_in d f)) ≡ go e ws log len (Kc a (CallPoint.Send q) y (turning.world_in b b₀))
     unfolding laid_request
     send-steps {b = b} v hv k =
         ap (λ t. go e ws log len t) (stepped RequestPut.None buf refl k)
-        ∙ send-tree b (send.send_answer (session_in b).st out q (BusAnswer.Value v) (arrived (session_in b).st)) (rw hv refl)
+        ∙ send-tree b (send.send_answer (session_in b).st out q (Ok v) (arrived (session_in b).st)) (rw hv refl)
 
     -- 7
-    pub send-faults : (b : List ℕ) (v : ℕ) → BusAnswer.Fault v ≡ told y → go e ws log len (stop (DriverError.Fault v) (turning.world_in b buf)) ≡ go e ws log len (Kc a (CallPoint.Send q) y (turning.world_in b b₀))
+    pub send-faults : (b : List ℕ) (v : ℕ) → Err (fault_at v) ≡ told y → go e ws log len (stop (DriverError.Fault v) (turning.world_in b buf)) ≡ go e ws log len (Kc a (CallPoint.Send q) y (turning.world_in b b₀))
     unfolding call_tree sending_step sending_next laid_all laid_before laid_request laid_header list_at list_heard
     send-faults b v hv =
         send-tree b (send.refuses (session_in b).st (DriverError.Fault v)) (rw (← hv) (sym (faulted (session_in b).st out q v (arrived (session_in b).st) (not-wait (send.send_op q) y v i hv))))
 
-    pub ready-goes : (left n : ℕ) → q ≡ SendPoint.Ready left n → (b : List ℕ) (v : ℕ) → BusAnswer.Value v ≡ told y → eqb (bit_and (v % 4294967296) 0x20) 0 ≡ false
+    pub ready-goes : (left n : ℕ) → q ≡ SendPoint.Ready left n → (b : List ℕ) (v : ℕ) → Ok v ≡ told y → eqb (bit_and (v % 4294967296) 0x20) 0 ≡ false
         → go e ws log len (call_tree a (to.asks_of (SendPoint.Writing n)) (turning.world_in b buf)) ≡ go e ws log len (Kc a (CallPoint.Send q) y (turning.world_in b b₀))
     unfolding sending_step sending_next laid_all laid_before laid_request laid_header list_at list_heard send.send_answer send.at_ready send.ready_step
     ready-goes left n hq b v hv h =
         send-tree b (send.asks (session_in b).st false (SendPoint.Writing n)) (rw (← hv, hq, h) refl)
 
-    pub write-ends : (n : ℕ) → q ≡ SendPoint.Writing n → (b : List ℕ) (v : ℕ) → BusAnswer.Value v ≡ told y
-        → turning.Ends e (go e ws log len (Kc a (CallPoint.Send q) y (turning.world_in b b₀))) (ending.end_by (Outcome.Ok Success.Done) len) log b buf
+    pub write-ends : (n : ℕ) → q ≡ SendPoint.Writing n → (b : List ℕ) (v : ℕ) → Ok v ≡ told y
+        → turning.Ends e (go e ws log len (Kc a (CallPoint.Send q) y (turning.world_in b b₀))) (ending.end_by (Ok Success.Done) len) log b buf
     unfolding sending_step sending_next laid_all laid_before laid_request laid_header list_at list_heard send.send_answer send.at_writing
     write-ends n hq b v hv =
         rw (← send-tree b (send.step (session_in b).st false SendNext.Sent) (rw (← hv, hq) refl)) (sent-ends frame e ws log b buf len)
@@ -211,7 +211,7 @@ turns-by frame e rec log b buf r h t = rw (← h) t
 -- after an operation that was answered with a value
 pub valued-turns : (frame : Bytes) (op : BusOp) {rec log log' : List ℕ} {pos len : ℕ} {b c : Bytes} (x : Asked) (h : Asks op rec log log' pos len b c x) (e : World) (s : Place) (k : Ans → Prog Result) (r : SendTurned) (d : List ℕ) (f : Bytes)
     → x.back ≡ Back.No → x.fault ≡ false
-    → ((y : Ans) → BusAnswer.Value x.value ≡ told y → InRange op y → c ≡ landing op y b → to.Turns frame e (go e (drop x.pos rec) log' x.len (k y)) rec r log' d f)
+    → ((y : Ans) → Ok x.value ≡ told y → InRange op y → c ≡ landing op y b → to.Turns frame e (go e (drop x.pos rec) log' x.len (k y)) rec r log' d f)
     → to.Turns frame e (go e (drop pos rec) log len (asking (op_in op s b) k)) rec r log' d f
 valued-turns frame op {rec} {log} {log'} x h e s k r d f n g t = law.asked-value op x h e s k d (λ (o : End). to.Turns frame e o rec r log' d f) n g t
 
@@ -221,7 +221,7 @@ ends_by h t = rw (← h) t
 
 pub valued-ends : (op : BusOp) {rec log log' : List ℕ} {pos len : ℕ} {b c : Bytes} (x : Asked) (h : Asks op rec log log' pos len b c x) (e : World) (s : Place) (k : Ans → Prog Result) {r : RunEnd} {l d : List ℕ} {f : Bytes}
     → x.back ≡ Back.No → x.fault ≡ false
-    → ((y : Ans) → BusAnswer.Value x.value ≡ told y → InRange op y → c ≡ landing op y b → turning.Ends e (go e (drop x.pos rec) log' x.len (k y)) r l d f)
+    → ((y : Ans) → Ok x.value ≡ told y → InRange op y → c ≡ landing op y b → turning.Ends e (go e (drop x.pos rec) log' x.len (k y)) r l d f)
     → turning.Ends e (go e (drop pos rec) log len (asking (op_in op s b) k)) r l d f
 valued-ends op x h e s k {r} {l} {d} {f} n g t = law.asked-value op x h e s k d (λ (o : End). turning.Ends e o r l d f) n g t
 

@@ -27,6 +27,7 @@ use send_points::{SendAt, SendKind, SendNow, SentKind};
 use sending::{send_answer, send_start};
 use turning::{back_end, is_back};
 use undo::keep;
+use wlan::{SessionBytes, UndoBytes, WorkBuffer};
 
 // A turn goes on at an operation of the send, or the send is over. end.len: how many words are in the log.
 #[derive(Clone, Copy)]
@@ -98,15 +99,14 @@ fn send_turn(
     p: SendAt,
     pos: usize,
     len: usize,
-    s: &mut [u8],
-    undo: &mut [u8],
+    s: &mut SessionBytes,
+    undo: &mut UndoBytes,
     rec: &[u32],
     log: &mut [u32],
-    buf: &mut [u8],
+    buf: &mut WorkBuffer,
 ) -> SendTurned
     requires s_value { is_session s.old ≡ true }
     requires kept_2 { Kept undo.old }
-    requires buf_len { length buf.old ≡ 2048 }
     ensures on { (frame : Bytes) → to.Sized frame size → (e : World) → to.Turns frame e (go e (drop pos rec.now) log.old len (call_tree (to.args_in frame) (to.asks_at p) (turning.world_in s.old buf.old))) rec.now result log.new s.new buf.new }
     ensures held { is_session s.new ≡ true }
     ensures kept { turning.KeptAll undo.old undo.new s.old s.new buf.old buf.new }
@@ -124,9 +124,8 @@ fn send_turn(
 }
 
 // The frame is laid behind the header's place, and the bytes there are kept.
-fn lay_frame(interface: u8, frame: &[u8], undo: &mut [u8], buf: &mut [u8])
+fn lay_frame(interface: u8, frame: &[u8], undo: &mut UndoBytes, buf: &mut WorkBuffer)
     requires kept_2 { Kept undo.old }
-    requires buf_len { length buf.old ≡ 2048 }
     requires frame_len_bound { length frame.now ≤ 2030 }
     ensures laid { buf.new ≡ over buf.old 12 (data_part interface frame.now) }
     ensures kept { Covered undo.old undo.new buf.old buf.new }
@@ -139,15 +138,14 @@ fn lay_frame(interface: u8, frame: &[u8], undo: &mut [u8], buf: &mut [u8])
 fn send_on(
     size: u16,
     first: SendTurned,
-    s: &mut [u8],
-    undo: &mut [u8],
+    s: &mut SessionBytes,
+    undo: &mut UndoBytes,
     rec: &[u32],
     log: &mut [u32],
-    buf: &mut [u8],
+    buf: &mut WorkBuffer,
 ) -> RunEnd
     requires s_value { is_session s.old ≡ true }
     requires kept_2 { Kept undo.old }
-    requires buf_len { length buf.old ≡ 2048 }
     requires len_in_bounds { first.on ≡ true → first.end.len ≤ length log.old }
     ensures on { (frame : Bytes) → to.Sized frame size → (e : World) (x : End) → to.Turns frame e x rec.now first log.old s.old buf.old → turning.Ends e x result log.new s.new buf.new }
     ensures held { is_session s.new ≡ true }
@@ -166,10 +164,15 @@ fn send_on(
 // ---- the call
 
 // The frame is laid, and the send begins.
-fn send_first(interface: u8, frame: &[u8], s: &mut [u8], undo: &mut [u8], buf: &mut [u8]) -> SendNow
+fn send_first(
+    interface: u8,
+    frame: &[u8],
+    s: &mut SessionBytes,
+    undo: &mut UndoBytes,
+    buf: &mut WorkBuffer,
+) -> SendNow
     requires s_value { is_session s.old ≡ true }
     requires kept_2 { Kept undo.old }
-    requires buf_len { length buf.old ≡ 2048 }
     requires frame_len_bound { length frame.now ≤ 2030 }
     ensures on { call_tree (to.args_in frame.now) (to.call_now result) (turning.world_in s.new buf.new) ≡ call_shown (to.args_in frame.now) (to.start_in interface frame.now s.old) (event_of [] 0) (turning.world_in s.old buf.old) }
     ensures held { is_session s.new ≡ true }
@@ -183,15 +186,14 @@ fn send_first(interface: u8, frame: &[u8], s: &mut [u8], undo: &mut [u8], buf: &
 pub fn send_run(
     interface: u8,
     frame: &[u8],
-    s: &mut [u8],
-    undo: &mut [u8],
+    s: &mut SessionBytes,
+    undo: &mut UndoBytes,
     rec: &[u32],
     log: &mut [u32],
-    buf: &mut [u8],
+    buf: &mut WorkBuffer,
 ) -> RunEnd
     requires s_value { is_session s.old ≡ true }
     requires kept_2 { Kept undo.old }
-    requires buf_len { length buf.old ≡ 2048 }
     requires frame_len_bound { length frame.now ≤ 2030 }
     ensures on { (e : World) → turning.Ends e (go e (drop 0 rec.now) log.old 0 (call_shown (to.args_in frame.now) (to.start_in interface frame.now s.old) (event_of [] 0) (turning.world_in s.old buf.old))) result log.new s.new buf.new }
     ensures held { is_session s.new ≡ true }

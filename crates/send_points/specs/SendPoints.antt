@@ -1,7 +1,6 @@
 -- The code's flat values in the mirror's terms.
-use Rattle.std.specs.Prelude.{ℕ, false}
+use Rattle.std.specs.Prelude.{ℕ, false, Option, None}
 use Rattle.wlan.specs.declared.State.{State}
-use Rattle.send.specs.declared.HeaderPut.{HeaderPut}
 use Rattle.send.specs.declared.SendNext.{SendNext}
 use Rattle.send.specs.declared.SendPoint.{SendPoint}
 use Rattle.send.specs.declared.SendStep.{SendStep}
@@ -14,6 +13,7 @@ use Rattle.send_points.specs.declared.SendAt.{SendAt}
 use Rattle.send_points.specs.declared.SendKind.{SendKind}
 use Rattle.send_points.specs.declared.SendNow.{SendNow}
 use Rattle.send_points.specs.declared.SentKind.{SentKind}
+use Rattle.send.specs.declared.Header.{Header}
 
 unfoldable pub point_by : SendKind → PollAt → ℕ → ℕ → ℕ → SendPoint
 point_by SendKind.First q t0 left n = SendPoint.Stall StallPoint.First
@@ -31,19 +31,19 @@ abbrev pub unpolled : PollAt
 unpolled = record { kind = PollKind.Interrupt; n = 0 }
 
 -- the header that a step lays
-unfoldable pub header_in : SendNext → HeaderPut
+unfoldable pub header_in : SendNext → Option Header
 header_in (SendNext.Ask h p) = h
-header_in SendNext.Sent = HeaderPut.None
+header_in SendNext.Sent = None
 header_in (SendNext.Refused h e) = h
 
-unfoldable pub next_by : SentKind → SendNow → HeaderPut → SendNext
+unfoldable pub next_by : SentKind → SendNow → Option Header → SendNext
 next_by SentKind.Ask r h = SendNext.Ask h (point_of r.at)
 next_by SentKind.Sent r h = SendNext.Sent
 next_by SentKind.Refused r h = SendNext.Refused h r.error
 
-abbrev pub next_of : SendNow → HeaderPut → SendNext
+abbrev pub next_of : SendNow → Option Header → SendNext
 next_of r h = next_by r.kind r h
 
 -- a step that lays nothing, hears nothing and leaves the state
 abbrev pub stays : State → SendNow → SendStep
-stays s r = step s false (next_of r HeaderPut.None)
+stays s r = step s false (next_of r None)

@@ -1,20 +1,20 @@
 // `sdpcm_send_common`: where a send waits, and the steps of it that lay nothing and change nothing. What is handed on is flat.
 #![tactic(auto)]
 
-ghost use Rattle.std.specs.Prelude.{◌≡◌, Bool, true};
+ghost use Rattle.std.specs.Prelude.{◌≡◌, Bool, true, Option};
 ghost use Rattle.wlan.specs.declared.State.{State};
 ghost use Rattle.definition.specs.Send.{free};
-ghost use Rattle.send.specs.declared.HeaderPut.{HeaderPut};
 ghost use Rattle.send.specs.declared.SendNext as next;
 ghost use Rattle.send.specs.Send as to;
 ghost use Rattle.session_bytes.specs.Session.{is_session, session_in};
 ghost use Rattle.send_points.specs.SendPoints as at;
+ghost use Rattle.send.specs.declared.Header.{Header};
 
 use places_read::sdpcm_at;
 use poll_points::{PollAt, PollKind, poll_from};
 use sdpcm::status::f2_ready;
 use send::{OutPacket, elapsed_us};
-use wlan::DriverError;
+use wlan::{DriverError, SessionBytes};
 
 #[derive(Clone, Copy)]
 pub enum SendKind {
@@ -63,7 +63,7 @@ pub fn unpolled() -> PollAt
 }
 
 pub fn asks(kind: SendKind, q: PollAt, t0: u64, left: u16, n: u16) -> SendNow
-    ensures { (h : HeaderPut) → at.next_of result h ≡ next.SendNext.Ask h (at.point_by kind q t0 left n) }
+    ensures { (h : Option Header) → at.next_of result h ≡ next.SendNext.Ask h (at.point_by kind q t0 left n) }
 {
     SendNow {
         kind: SentKind::Ask,
@@ -80,7 +80,7 @@ pub fn asks(kind: SendKind, q: PollAt, t0: u64, left: u16, n: u16) -> SendNow
 
 // A point outside a poll.
 pub fn waits(kind: SendKind, t0: u64, left: u16, n: u16) -> SendNow
-    ensures { (h : HeaderPut) → at.next_of result h ≡ next.SendNext.Ask h (at.point_by kind at.unpolled t0 left n) }
+    ensures { (h : Option Header) → at.next_of result h ≡ next.SendNext.Ask h (at.point_by kind at.unpolled t0 left n) }
 {
     asks(kind, unpolled(), t0, left, n)
 }
@@ -102,18 +102,18 @@ fn ended(kind: SentKind, e: DriverError) -> SendNow
 }
 
 pub fn sent() -> SendNow
-    ensures { (h : HeaderPut) → at.next_of result h ≡ next.SendNext.Sent }
+    ensures { (h : Option Header) → at.next_of result h ≡ next.SendNext.Sent }
 {
     ended(SentKind::Sent, DriverError::Io)
 }
 
 pub fn refuse(e: DriverError) -> SendNow
-    ensures { (h : HeaderPut) → at.next_of result h ≡ next.SendNext.Refused h e }
+    ensures { (h : Option Header) → at.next_of result h ≡ next.SendNext.Refused h e }
 {
     ended(SentKind::Refused, e)
 }
 
-pub fn is_free(s: &[u8]) -> bool
+pub fn is_free(s: &SessionBytes) -> bool
     requires { is_session s.now ≡ true }
     ensures { result ≡ free (session_in s.now).st }
 {
@@ -128,7 +128,7 @@ pub fn is_free(s: &[u8]) -> bool
 // Once the header is laid and the sequence number spent: a packet above 2,040 bytes goes no further.
 pub fn emitted(out: OutPacket) -> SendNow
     ensures next { (s : State) (h : Bool) → to.emit_step s h out ≡ to.step (to.spending s) h (at.next_of result (to.put_of s out)) }
-    ensures laid { (h : HeaderPut) → at.header_in (at.next_of result h) ≡ h }
+    ensures laid { (h : Option Header) → at.header_in (at.next_of result h) ≡ h }
 {
     let size = out.size;
     if 2040 < size {
@@ -138,7 +138,7 @@ pub fn emitted(out: OutPacket) -> SendNow
 }
 
 // A stall polls, from the beginning.
-pub fn polling(s: &[u8], t0: u64) -> SendNow
+pub fn polling(s: &SessionBytes, t0: u64) -> SendNow
     requires { is_session s.now ≡ true }
     ensures { to.polling_step (session_in s.now).st t0 ≡ at.stays (session_in s.now).st result }
 {

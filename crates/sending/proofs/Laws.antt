@@ -7,7 +7,6 @@ use mathlib.Core.List.{List}
 use lib.ListN.{length, drop}
 use Rattle.slices.specs.Over.{over}
 use Rattle.wlan.specs.declared.AsyncEvent.{AsyncEvent}
-use Rattle.wlan.specs.declared.BusAnswer.{BusAnswer}
 use Rattle.wlan.specs.declared.DriverError.{DriverError}
 use Rattle.wlan.specs.declared.State.{State}
 use Rattle.definition.specs.Bus.{Bytes}
@@ -15,7 +14,6 @@ use Rattle.definition.specs.Packet.{header}
 use Rattle.handling.specs.Handle.{handled_of, list_heard}
 use Rattle.device.specs.declared.Arrival.{Arrival}
 use Rattle.device.specs.Poll.{poll_answer}
-use Rattle.send.specs.declared.HeaderPut.{HeaderPut}
 use Rattle.send.specs.declared.OutPacket.{OutPacket}
 use Rattle.send.specs.declared.SendNext.{SendNext}
 use Rattle.send.specs.declared.SendPoint.{SendPoint}
@@ -37,11 +35,13 @@ use Rattle.send_points.specs.declared.SendNow.{SendNow}
 use Rattle.send_points.specs.declared.SentKind.{SentKind}
 use Rattle.send_points.specs.SendPoints.{header_in, next_by, next_of}
 use Rattle.sending.specs.Sending.{Covered, Spends, Emits, Sends}
+use Rattle.std.specs.Prelude.{None, Err}
+use Rattle.wlan.specs.Results.{fault_at}
 
 -- ---- a fault
 
 pub faulted : (s : State) (o : OutPacket) (p : SendPoint) (place : ℕ) (a : Arrival) → is_wait (to.send_op p) ≡ false
-    → to.send_answer s o p (BusAnswer.Fault place) a ≡ to.refuses s (DriverError.Fault place)
+    → to.send_answer s o p (Err (fault_at place)) a ≡ to.refuses s (DriverError.Fault place)
 unfolding is_wait to.send_op to.stall_op to.send_answer to.stall_answer to.at_first to.at_late to.stall_poll to.stall_next to.at_ready to.at_writing poll_answer
 faulted s o (SendPoint.Stall StallPoint.First) place a h = refl
 faulted s o (SendPoint.Stall (StallPoint.Polling t0 q)) place a h = refl
@@ -70,7 +70,7 @@ covered {u} {v} {c} {f} size seq channel k m s e hc hf l =
 front_kept : (u b : List ℕ) {d : List ℕ} (t : State) → Kept u → is_session b ≡ true → Holds d (with_state b t) → back_session u d ≡ back_session u b
 front_kept u b {d} t k h s = front-changed d b k (session-length d s.known) (session-length b h) (records-kept b h t s)
 
-none-laid : (k : SentKind) (r : SendNow) → header_in (next_by k r HeaderPut.None) ≡ HeaderPut.None
+none-laid : (k : SentKind) (r : SendNow) → header_in (next_by k r None) ≡ None
 unfolding header_in next_by
 none-laid SentKind.Ask r = refl
 none-laid SentKind.Sent r = refl
@@ -78,14 +78,14 @@ none-laid SentKind.Refused r = refl
 
 -- the state changed, and nothing is laid
 pub changed : {u b d : List ℕ} {c : Bytes} {t : State} {r : SendNow} {h : Bool} {s : SendStep} → Kept u → is_session b ≡ true → Holds d (with_state b t)
-    → s ≡ to.step t h (next_of r HeaderPut.None) → Emits u u b d c c r h s
+    → s ≡ to.step t h (next_of r None) → Emits u u b d c c r h s
 unfolding laid_header
 changed {u} {b} {d} {c} {t} {r} k hb hd e =
-    let n : header_in (next_of r HeaderPut.None) ≡ HeaderPut.None = none-laid r.kind r in
+    let n : header_in (next_of r None) ≡ None = none-laid r.kind r in
     rw e (record { next = rw n refl; laid = rw n refl; held = hd; heard = refl; kept = k; session = front_kept u b t k hb hd; buf = refl })
 
 pub still : {u b : List ℕ} {c : Bytes} {r : SendNow} {h : Bool} {s : SendStep} → Kept u → is_session b ≡ true
-    → s ≡ to.step (session_in b).st h (next_of r HeaderPut.None) → Emits u u b b c c r h s
+    → s ≡ to.step (session_in b).st h (next_of r None) → Emits u u b b c c r h s
 still k hb e = changed k hb (record { known = hb; back = refl }) e
 
 -- a header is laid with the sequence number, which is spent

@@ -2,10 +2,9 @@
 // there at once, and kept before that.
 #![tactic(auto)]
 
-ghost use Rattle.std.specs.Prelude.{◌≡◌, Bool, true, length, drop};
+ghost use Rattle.std.specs.Prelude.{◌≡◌, Bool, true, length, drop, Ok};
 ghost use Rattle.slices.specs.Over.{over};
 ghost use Rattle.wlan.specs.declared.AsyncEvent.{AsyncEvent};
-ghost use Rattle.wlan.specs.declared.BusAnswer.{BusAnswer};
 ghost use Rattle.definition.specs.Event.{event_of};
 ghost use Rattle.definition.specs.Packet.{header};
 ghost use Rattle.handling.specs.Handle.{handled_of};
@@ -30,12 +29,11 @@ use send_points::{
     stall_late, waits,
 };
 use undo::keep;
-use wlan::DriverError;
+use wlan::{DriverError, SessionBytes, UndoBytes, WorkBuffer};
 
 // Lays a packet's header at the front of the work buffer, whose bytes there are kept.
-fn lay_header(undo: &mut [u8], buf: &mut [u8], size: u16, seq: u8, channel: u8)
+fn lay_header(undo: &mut UndoBytes, buf: &mut WorkBuffer, size: u16, seq: u8, channel: u8)
     requires kept_2 { Kept undo.old }
-    requires buf_len { length buf.old ≡ 2048 }
     ensures laid { buf.new ≡ over buf.old 0 (header size seq channel) }
     ensures kept { at.Covered undo.old undo.new buf.old buf.new }
 {
@@ -44,10 +42,9 @@ fn lay_header(undo: &mut [u8], buf: &mut [u8], size: u16, seq: u8, channel: u8)
 }
 
 // Lays the packet's header, and spends its sequence number.
-pub fn emit_header(s: &mut [u8], undo: &mut [u8], buf: &mut [u8], out: OutPacket)
+pub fn emit_header(s: &mut SessionBytes, undo: &mut UndoBytes, buf: &mut WorkBuffer, out: OutPacket)
     requires s_value { is_session s.old ≡ true }
     requires kept { Kept undo.old }
-    requires buf_len { length buf.old ≡ 2048 }
     ensures { at.Spends undo.old undo.new s.old s.new buf.old buf.new out }
 {
     let t = sdpcm_at(s);
@@ -57,20 +54,23 @@ pub fn emit_header(s: &mut [u8], undo: &mut [u8], buf: &mut [u8], out: OutPacket
 }
 
 // The header is laid and the sequence number spent; a packet above 2,040 bytes goes no further.
-fn emit(s: &mut [u8], undo: &mut [u8], buf: &mut [u8], out: OutPacket) -> SendNow
+fn emit(s: &mut SessionBytes, undo: &mut UndoBytes, buf: &mut WorkBuffer, out: OutPacket) -> SendNow
     requires s_value { is_session s.old ≡ true }
     requires kept { Kept undo.old }
-    requires buf_len { length buf.old ≡ 2048 }
     ensures { (h : Bool) → at.Emits undo.old undo.new s.old s.new buf.old buf.new result h (to.emit_step (session_in s.old).st h out) }
 {
     emit_header(s, undo, buf, out);
     emitted(out)
 }
 
-pub fn send_start(s: &mut [u8], undo: &mut [u8], buf: &mut [u8], out: OutPacket) -> SendNow
+pub fn send_start(
+    s: &mut SessionBytes,
+    undo: &mut UndoBytes,
+    buf: &mut WorkBuffer,
+    out: OutPacket,
+) -> SendNow
     requires s_value { is_session s.old ≡ true }
     requires kept { Kept undo.old }
-    requires buf_len { length buf.old ≡ 2048 }
     ensures { (e : AsyncEvent) → at.Sends undo.old undo.new s.old s.new buf.old buf.new result e (to.start_step (session_in s.old).st out) }
 {
     if is_free(s) {
@@ -80,10 +80,15 @@ pub fn send_start(s: &mut [u8], undo: &mut [u8], buf: &mut [u8], out: OutPacket)
 }
 
 // After a poll of a stall.
-fn test(s: &mut [u8], undo: &mut [u8], buf: &mut [u8], out: OutPacket, t0: u64) -> SendNow
+fn test(
+    s: &mut SessionBytes,
+    undo: &mut UndoBytes,
+    buf: &mut WorkBuffer,
+    out: OutPacket,
+    t0: u64,
+) -> SendNow
     requires s_value { is_session s.old ≡ true }
     requires kept { Kept undo.old }
-    requires buf_len { length buf.old ≡ 2048 }
     ensures { (h : Bool) → at.Emits undo.old undo.new s.old s.new buf.old buf.new result h (to.test_step (session_in s.old).st h out t0) }
 {
     if is_free(s) {
@@ -94,9 +99,9 @@ fn test(s: &mut [u8], undo: &mut [u8], buf: &mut [u8], out: OutPacket, t0: u64) 
 
 // A stall's poll brought an event of a declared length.
 fn stall_event(
-    s: &mut [u8],
-    undo: &mut [u8],
-    buf: &mut [u8],
+    s: &mut SessionBytes,
+    undo: &mut UndoBytes,
+    buf: &mut WorkBuffer,
     out: OutPacket,
     t0: u64,
     offset: u16,
@@ -104,7 +109,6 @@ fn stall_event(
 ) -> SendNow
     requires s_value { is_session s.old ≡ true }
     requires kept { Kept undo.old }
-    requires buf_len { length buf.old ≡ 2048 }
     ensures { (e : AsyncEvent) → e ≡ event_of (drop offset buf.old) len → at.Sends undo.old undo.new s.old s.new buf.old buf.new result e (to.test_step (handled_of (session_in s.old).st len e).st (handled_of (session_in s.old).st len e).heard out t0) }
 {
     handle_async_event(s, undo, buf, offset, len);
@@ -113,16 +117,15 @@ fn stall_event(
 
 // What a stall's poll came to.
 fn stall_next(
-    s: &mut [u8],
-    undo: &mut [u8],
-    buf: &mut [u8],
+    s: &mut SessionBytes,
+    undo: &mut UndoBytes,
+    buf: &mut WorkBuffer,
     out: OutPacket,
     t0: u64,
     r: Polled,
 ) -> SendNow
     requires s_value { is_session s.old ≡ true }
     requires kept { Kept undo.old }
-    requires buf_len { length buf.old ≡ 2048 }
     ensures { (e : AsyncEvent) → Tells buf.old e (poll.next_of r) → at.Sends undo.old undo.new s.old s.new buf.old buf.new result e (to.stall_next (session_in s.old).st out t0 e (poll.next_of r)) }
 {
     let k = r.kind;
@@ -143,9 +146,9 @@ fn stall_next(
 }
 
 fn stall_poll(
-    s: &mut [u8],
-    undo: &mut [u8],
-    buf: &mut [u8],
+    s: &mut SessionBytes,
+    undo: &mut UndoBytes,
+    buf: &mut WorkBuffer,
     out: OutPacket,
     t0: u64,
     q: PollAt,
@@ -153,8 +156,7 @@ fn stall_poll(
 ) -> SendNow
     requires s_value { is_session s.old ≡ true }
     requires kept { Kept undo.old }
-    requires buf_len { length buf.old ≡ 2048 }
-    ensures { at.Sends undo.old undo.new s.old s.new buf.old buf.new result (arrival_at (poll_op (poll.point_of q)) buf.old (session_in s.old).st.sdpcm).event (to.stall_poll (session_in s.old).st out t0 (poll.point_of q) (BusAnswer.Value v) (arrival_at (poll_op (poll.point_of q)) buf.old (session_in s.old).st.sdpcm)) }
+    ensures { at.Sends undo.old undo.new s.old s.new buf.old buf.new result (arrival_at (poll_op (poll.point_of q)) buf.old (session_in s.old).st.sdpcm).event (to.stall_poll (session_in s.old).st out t0 (poll.point_of q) (Ok v) (arrival_at (poll_op (poll.point_of q)) buf.old (session_in s.old).st.sdpcm)) }
 {
     let r = poll_device(s, q, v, buf);
     stall_next(s, undo, buf, out, t0, r)
@@ -162,17 +164,16 @@ fn stall_poll(
 
 // The value of an answer to the operation at p.
 pub fn send_answer(
-    s: &mut [u8],
-    undo: &mut [u8],
-    buf: &mut [u8],
+    s: &mut SessionBytes,
+    undo: &mut UndoBytes,
+    buf: &mut WorkBuffer,
     out: OutPacket,
     p: SendAt,
     v: u64,
 ) -> SendNow
     requires s_value { is_session s.old ≡ true }
     requires kept { Kept undo.old }
-    requires buf_len { length buf.old ≡ 2048 }
-    ensures { at.Sends undo.old undo.new s.old s.new buf.old buf.new result (arrival_at (to.send_op (point_of p)) buf.old (session_in s.old).st.sdpcm).event (to.send_answer (session_in s.old).st out (point_of p) (BusAnswer.Value v) (arrival_at (to.send_op (point_of p)) buf.old (session_in s.old).st.sdpcm)) }
+    ensures { at.Sends undo.old undo.new s.old s.new buf.old buf.new result (arrival_at (to.send_op (point_of p)) buf.old (session_in s.old).st.sdpcm).event (to.send_answer (session_in s.old).st out (point_of p) (Ok v) (arrival_at (to.send_op (point_of p)) buf.old (session_in s.old).st.sdpcm)) }
 {
     let k = p.kind;
     let q = p.at;

@@ -11,7 +11,6 @@ use Rattle.slices.specs.Le.{le32_at}
 use Rattle.slices.proofs.Over.{over-nil}
 use Rattle.wlan.specs.declared.DriverError.{DriverError}
 use Rattle.wlan.specs.declared.Refusal.{Refusal}
-use Rattle.wlan.specs.declared.Outcome.{Outcome}
 use Rattle.definition.specs.Bus.{Bytes, log_of}
 use Rattle.definition.specs.Prog.{World}
 use Rattle.definition.specs.Calls.{Call}
@@ -25,6 +24,8 @@ use Rattle.runs.specs.Runs.{Left, Ran}
 use Rattle.taking.specs.Taking.{Leaves}
 use Rattle.lines.specs.Input.{output_length}
 use Rattle.session.specs.Play.{Plays, call_end, world_after}
+use Rattle.std.specs.Prelude.{Err}
+use Rattle.wlan.specs.Results.{Outcome}
 
 -- ---- the output's room, and the end where the arguments are bad
 
@@ -66,10 +67,10 @@ took n w rec log out ex ek eo h =
     as_call (Call.get_rx_buf (length out)) w rec log out (rw l ex) h
 
 -- nothing is changed
-pub refused : {r : RunEnd} {x : Arguments} (rec log b : List ℕ) (buf out : Bytes) → x ≡ bad_arguments → is_session b ≡ true → r ≡ end_by (Outcome.Refused (Refusal.Driver DriverError.InvalidArg)) 0 → Plays x rec log log b b buf buf out out r
+pub refused : {r : RunEnd} {x : Arguments} (rec log b : List ℕ) (buf out : Bytes) → x ≡ bad_arguments → is_session b ≡ true → r ≡ end_by (Err (Refusal.Driver DriverError.InvalidArg)) 0 → Plays x rec log log b b buf buf out out r
 unfolding played_call
 refused rec log b buf out ex h er =
-    rw (ex, er, ← ended (Outcome.Refused (Refusal.Driver DriverError.InvalidArg)) (world_in b buf) log out)
+    rw (ex, er, ← ended (Err (Refusal.Driver DriverError.InvalidArg)) (world_in b buf) log out)
     (record { tells = record { kind = refl; value = refl; failure = refl; fits = omega arith }; len = refl; log = refl; output = refl; held = h; stands = refl })
 
 -- the state, the list and the buffer that are handed on

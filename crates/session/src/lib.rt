@@ -14,16 +14,14 @@ ghost use Rattle.lines.specs.Input.{output_length};
 ghost use Rattle.lines.specs.Text.{text_of};
 ghost use Rattle.session.specs.Play.{call_end, world_after, Fronts};
 
-use lines::input::Next;
+use lines::input::CallInput;
+use wlan::{SessionBytes, UndoBytes, WorkBuffer};
 
-pub fn fresh(s: &mut [u8]) -> bool
-    requires { length s.old ≡ 1393 }
+pub fn fresh(s: &mut SessionBytes)
     ensures held { is_session s.new ≡ true }
     ensures finds { world_in s.new [] ≡ world state.fresh [] empty_list }
-    ensures going { result ≡ true }
 {
     fresh_session::put_fresh(s);
-    true
 }
 
 pub fn bad() -> bool
@@ -35,47 +33,43 @@ pub fn bad() -> bool
 
 // Plays one call, prints its lines, and goes on if they were written.
 fn play(
-    call: u32,
-    args: &[u8],
-    rec: &[u32],
-    s: &mut [u8],
-    undo: &mut [u8],
-    buf: &mut [u8],
+    x: CallInput,
+    s: &mut SessionBytes,
+    undo: &mut UndoBytes,
+    buf: &mut WorkBuffer,
     text: &mut [u8],
 ) -> bool
-    requires args_bound { output_length call args.now ≤ 2048 }
+    requires args_bound { output_length x.call x.args.now ≤ 2048 }
     requires s_value { is_session s.old ≡ true }
-    requires undo_len { length undo.old ≡ 3444 }
-    requires buf_len { length buf.old ≡ 2048 }
     requires in_bounds { 73917 ≤ length text.old }
     ensures held { is_session s.new ≡ true }
-    ensures finds { world_in s.new buf.new ≡ world_after (call_end (world_in s.old buf.old) rec.now call args.now) }
-    ensures shows { Fronts (text_of (line_of call (call_end (world_in s.old buf.old) rec.now call args.now))) text.new }
+    ensures finds { world_in s.new buf.new ≡ world_after (call_end (world_in s.old buf.old) x.entry.rec.now x.entry.call x.entry.args.now) }
+    ensures shows { Fronts (text_of (line_of x.entry.call (call_end (world_in s.old buf.old) x.entry.rec.now x.entry.call x.entry.args.now))) text.new }
 {
     let mut log = lines::room::log_words();
     let mut out = lines::room::zero_bytes();
-    let n = lines::input::output_length(call, args);
-    let r = calls::play_call(call, args, s, undo, rec, &mut log, buf, &mut out[..n]);
-    let k = lines::text::put_lines(text, call, r, s, &log);
+    let n = lines::input::output_length(x.call, x.args);
+    let r = calls::play_call(x.call, x.args, s, undo, x.rec, &mut log, buf, &mut out[..n]);
+    let k = lines::text::put_lines(text, x.call, r, s, &log);
     io::write_all(1, &text[..k])
 }
 
 // Reads one call and plays it.
-pub fn turn(s: &mut [u8], undo: &mut [u8], buf: &mut [u8], text: &mut [u8]) -> bool
+pub fn turn(
+    s: &mut SessionBytes,
+    undo: &mut UndoBytes,
+    buf: &mut WorkBuffer,
+    text: &mut [u8],
+) -> bool
     requires s_value { is_session s.old ≡ true }
-    requires undo_len { length undo.old ≡ 3444 }
-    requires buf_len { length buf.old ≡ 2048 }
     requires in_bounds { 73917 ≤ length text.old }
     ensures { is_session s.new ≡ true }
 {
     let mut args = lines::room::zero_bytes();
     let mut rec = lines::room::recording_words();
-    let next = lines::input::read_call(&mut args, &mut rec);
-    match next {
-        Next::Nothing => false,
-        Next::Bad => bad(),
-        Next::One(call, count, words) => {
-            play(call, &args[..count], &rec[..words], s, undo, buf, text)
-        }
+    match lines::input::read_call(&mut args, &mut rec) {
+        Ok(Some(x)) => play(x, s, undo, buf, text),
+        Ok(None) => false,
+        Err(_) => bad(),
     }
 }

@@ -26,21 +26,18 @@ rest-bytes n p k i = rw (get_or-drop n p i 0) (k (n + i))
 
 -- ---- numbers
 
-low_digit : (a q : ℕ) → a < 256 → (a + 256 * q) % 256 ≡ a
-low_digit a q h = omega arith
-
 pub two_digits : (a b : ℕ) → a < 256 → b < 256 → le16 (a + 256 * b) ≡ a ∷ b ∷ []
 two_digits a b h k =
-    let e : (a + 256 * b) / 256 ≡ b = omega arith in
-    let f : b % 256 ≡ b = omega arith in
-    rw (low_digit a b h, e, f)
+    let e : (a + 256 * b) % 256 ≡ a = omega arith in
+    let f : (a + 256 * b) / 256 % 256 ≡ b = omega arith in
+    rw (e, f)
 
 unsigned-pick : (t : Bool) (n : ℕ) → n < 65536 → unsigned16 (pick t (pos n) (negsuc (65535 - n))) ≡ n
 unfolding unsigned16
 unsigned-pick true n h = refl
 unsigned-pick false n h = omega arith
 
-unsigned_signed : (n : ℕ) → n < 65536 → unsigned16 (signed16 n) ≡ n
+pub unsigned_signed : (n : ℕ) → n < 65536 → unsigned16 (signed16 n) ≡ n
 unfolding signed16
 unsigned_signed n h = unsigned-pick (ltb n 32768) n h
 
@@ -53,78 +50,28 @@ pub unsigned-signed32 : (n : ℕ) → n < 4294967296 → unsigned32 (signed32 n)
 unfolding signed32
 unsigned-signed32 n h = unsigned-pick32 (ltb n 2147483648) n h
 
-digit1 : (n lo a q : ℕ) → n ≡ lo + 256 * (a + 256 * q) → lo < 256 → a < 256 → n / 256 % 256 ≡ a
-digit1 n lo a q e h k =
-    let f : n / 256 ≡ a + 256 * q = omega arith in
-    rw f (low_digit a q k)
-
-digit2 : (n lo a q : ℕ) → n ≡ lo + 65536 * (a + 256 * q) → lo < 65536 → a < 256 → n / 65536 % 256 ≡ a
-digit2 n lo a q e h k =
-    let f : n / 65536 ≡ a + 256 * q = omega arith in
-    rw f (low_digit a q k)
-
-digit3 : (n lo a q : ℕ) → n ≡ lo + 16777216 * (a + 256 * q) → lo < 16777216 → a < 256 → n / 16777216 % 256 ≡ a
-digit3 n lo a q e h k =
-    let f : n / 16777216 ≡ a + 256 * q = omega arith in
-    rw f (low_digit a q k)
-
 pub four-digits : (a b c d : ℕ) → a < 256 → b < 256 → c < 256 → d < 256 → le32 (a + 256 * b + 65536 * c + 16777216 * d) ≡ a ∷ b ∷ c ∷ d ∷ []
 four-digits a b c d a< b< c< d< =
     let n = a + 256 * b + 65536 * c + 16777216 * d in
     let e₀ : n % 256 ≡ a = omega arith in
-    rw (
-      e₀,
-      digit1 n a b (c + 256 * d) (omega arith) a< b<,
-      digit2 n (a + 256 * b) c d (omega arith) (omega arith) c<,
-      digit3 n (a + 256 * b + 65536 * c) d 0 (omega arith) (omega arith) d<,
-    )
-
-digit4 : (n lo a q : ℕ) → n ≡ lo + 4294967296 * (a + 256 * q) → lo < 4294967296 → a < 256 → n / 4294967296 % 256 ≡ a
-digit4 n lo a q e h k =
-    let f : n / 4294967296 ≡ a + 256 * q = omega arith in
-    rw f (low_digit a q k)
-
-digit5 : (n lo a q : ℕ) → n ≡ lo + 1099511627776 * (a + 256 * q) → lo < 1099511627776 → a < 256 → n / 1099511627776 % 256 ≡ a
-digit5 n lo a q e h k =
-    let f : n / 1099511627776 ≡ a + 256 * q = omega arith in
-    rw f (low_digit a q k)
-
-digit6 : (n lo a q : ℕ) → n ≡ lo + 281474976710656 * (a + 256 * q) → lo < 281474976710656 → a < 256 → n / 281474976710656 % 256 ≡ a
-digit6 n lo a q e h k =
-    let f : n / 281474976710656 ≡ a + 256 * q = omega arith in
-    rw f (low_digit a q k)
-
-digit7 : (n lo a q : ℕ) → n ≡ lo + 72057594037927936 * (a + 256 * q) → lo < 72057594037927936 → a < 256 → n / 72057594037927936 % 256 ≡ a
-digit7 n lo a q e h k =
-    let f : n / 72057594037927936 ≡ a + 256 * q = omega arith in
-    rw f (low_digit a q k)
+    let e₁ : n / 256 % 256 ≡ b = omega arith in
+    let e₂ : n / 65536 % 256 ≡ c = omega arith in
+    let e₃ : n / 16777216 % 256 ≡ d = omega arith in
+    rw (e₀, e₁, e₂, e₃)
 
 pub eight-digits : (a b c d e f g h : ℕ) → a < 256 → b < 256 → c < 256 → d < 256 → e < 256 → f < 256 → g < 256 → h < 256
     → le64 (a + 256 * b + 65536 * c + 16777216 * d + 4294967296 * (e + 256 * f + 65536 * g + 16777216 * h)) ≡ a ∷ b ∷ c ∷ d ∷ e ∷ f ∷ g ∷ h ∷ []
 eight-digits a b c d e f g h a< b< c< d< e< f< g< h< =
     let n = a + 256 * b + 65536 * c + 16777216 * d + 4294967296 * (e + 256 * f + 65536 * g + 16777216 * h) in
-    let q₆ = g + 256 * h in
-    let q₅ = f + 256 * q₆ in
-    let q₄ = e + 256 * q₅ in
-    let q₃ = d + 256 * q₄ in
-    let q₂ = c + 256 * q₃ in
-    let l₂ = a + 256 * b in
-    let l₃ = l₂ + 65536 * c in
-    let l₄ = l₃ + 16777216 * d in
-    let l₅ = l₄ + 4294967296 * e in
-    let l₆ = l₅ + 1099511627776 * f in
-    let l₇ = l₆ + 281474976710656 * g in
     let e₀ : n % 256 ≡ a = omega arith in
-    rw (
-      e₀,
-      digit1 n a b q₂ (omega arith) a< b<,
-      digit2 n l₂ c q₃ (omega arith) (omega arith) c<,
-      digit3 n l₃ d q₄ (omega arith) (omega arith) d<,
-      digit4 n l₄ e q₅ (omega arith) (omega arith) e<,
-      digit5 n l₅ f q₆ (omega arith) (omega arith) f<,
-      digit6 n l₆ g h (omega arith) (omega arith) g<,
-      digit7 n l₇ h 0 (omega arith) (omega arith) h<,
-    )
+    let e₁ : n / 256 % 256 ≡ b = omega arith in
+    let e₂ : n / 65536 % 256 ≡ c = omega arith in
+    let e₃ : n / 16777216 % 256 ≡ d = omega arith in
+    let e₄ : n / 4294967296 % 256 ≡ e = omega arith in
+    let e₅ : n / 1099511627776 % 256 ≡ f = omega arith in
+    let e₆ : n / 281474976710656 % 256 ≡ g = omega arith in
+    let e₇ : n / 72057594037927936 % 256 ≡ h = omega arith in
+    rw (e₀, e₁, e₂, e₃, e₄, e₅, e₆, e₇)
 
 -- ---- the list
 
@@ -132,17 +79,12 @@ tail-form : (p : List ℕ) → Bytes p → tail_bytes (record_of p) ≡ get_or p
 unfolding tail_bytes record_of
 tail-form p k = rw (unsigned_signed (le16_at p 40) (omega (arith, k 40, k 41)), two_digits (get_or p 40 0) (get_or p 41 0) (k 40) (k 41))
 
-add-suc1 : (i : ℕ) → i + 1 ≡ suc i
-add-suc1 i = omega arith
-
-add-suc2 : (i : ℕ) → i + 2 ≡ suc (suc i)
-add-suc2 i = omega arith
-
-add-suc3 : (i : ℕ) → i + 3 ≡ suc (suc (suc i))
-add-suc3 i = omega arith
-
 four-at : (p : List ℕ) (i : ℕ) → i + 3 < length p → take 4 (drop i p) ≡ get_or p i 0 ∷ get_or p (i + 1) 0 ∷ get_or p (i + 2) 0 ∷ get_or p (i + 3) 0 ∷ []
-four-at p i h = rw (add-suc1 i, add-suc2 i, add-suc3 i, drop-cons p i 0 (omega arith), drop-cons p (suc i) 0 (omega arith), drop-cons p (suc (suc i)) 0 (omega arith), drop-cons p (suc (suc (suc i))) 0 (omega arith))
+four-at p i h =
+    let e₁ : i + 1 ≡ suc i = omega arith in
+    let e₂ : i + 2 ≡ suc (suc i) = omega arith in
+    let e₃ : i + 3 ≡ suc (suc (suc i)) = omega arith in
+    rw (e₁, e₂, e₃, drop-cons p i 0 (omega arith), drop-cons p (suc i) 0 (omega arith), drop-cons p (suc (suc i)) 0 (omega arith), drop-cons p (suc (suc (suc i))) 0 (omega arith))
 
 record-form : (p : List ℕ) → 42 ≤ length p → Bytes p → record_bytes (record_of p) ≡ take 42 p
 unfolding record_bytes record_of

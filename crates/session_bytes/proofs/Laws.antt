@@ -1,19 +1,17 @@
 -- What is read back is what was written.
 use mathlib.Core.Path.{◌≡◌, refl, sym, ap, subst, ◌∙◌}
 use mathlib.Core.Bool.{Bool, true, false, ◌&&◌, false≢true}
-use mathlib.Core.List.{List, [], ◌∷◌, ◌++◌, append-nil, append_assoc}
-use Prim.Native.Nat.{ℕ, zero, suc, ◌+◌, ◌*◌, ◌-◌, ◌<◌, ◌≤◌}
-use native.Mathlib.Nat.{zero-add}
-use native.Mathlib.Numerals.{add-one}
+use mathlib.Core.List.{List, [], ◌∷◌, ◌++◌, append_assoc}
+use Prim.Native.Nat.{ℕ, zero, suc, ◌+◌, ◌*◌, ◌<◌}
 use native.Mathlib.Omega.{arith}
 use borrow.Author.Tests.{eq-eqb, eqb-true}
 use lib.Dec.{eqb}
 use lib.IntN.{ℤ}
-use lib.ListN.{length, take, drop, get_or, length-append, length-take, length-drop}
-use lib.Seq.{take_at, drop_at, drop-drop, drop-cons, take-suc, get_or-append-add}
+use lib.ListN.{length, take, drop, get_or, length-append, length-drop}
+use lib.Seq.{take_at, drop_at, drop-drop, get_or-append-add}
 use Rattle.slices.specs.Over.{over}
 use Rattle.slices.specs.Le.{le16_at, le32_at, signed16}
-use Rattle.slices.proofs.Over.{Run, run_more, over-append, over-nil, over-whole, part-rest}
+use Rattle.slices.proofs.Over.{over-append, over-nil}
 use Rattle.wlan.specs.declared.ScanRecord.{ScanRecord}
 use Rattle.wlan.specs.declared.ScanList.{ScanList}
 use Rattle.wlan.specs.declared.State.{State}

@@ -5,7 +5,6 @@ ghost use Rattle.slices.specs.Le.{le16_at, le32_at, signed16};
 ghost use Rattle.state_bytes.specs.StateBytes.{le64};
 ghost use Rattle.session_bytes.specs.ListBytes as to;
 
-use slices::copy_over;
 use state_bytes::numbers::unsigned16;
 use wlan::ScanRecord;
 
@@ -13,13 +12,8 @@ use wlan::ScanRecord;
 fn tail_bytes(r: ScanRecord) -> [u8; 4]
     ensures { (result ≡ to.tail_bytes r) × (signed16 (le16_at result 2) ≡ r.rssi) }
 {
-    let n = unsigned16(r.rssi);
-    [
-        r.ssid_len,
-        r.channel,
-        (n % 256) as u8,
-        (n / 256 % 256) as u8,
-    ]
+    let [low, high] = unsigned16(r.rssi).to_le_bytes();
+    [r.ssid_len, r.channel, low, high]
 }
 
 // Lays all of s, so that a compiler knows how much it is.
@@ -27,7 +21,7 @@ pub fn put_whole(out: &mut [u8], at: usize, s: &[u8])
     requires { at + length s.now ≤ length out.old }
     ensures { out.new ≡ over out.old at s.now }
 {
-    copy_over(&mut out[at..at + s.len()], 0, s);
+    out[at..at + s.len()].copy_from_slice(s);
 }
 
 // What is read from the bytes is the record.
@@ -36,25 +30,13 @@ pub fn put_record(r: ScanRecord, out: &mut [u8], at: usize)
     ensures put { out.new ≡ over out.old at (to.record_bytes r) }
     ensures back { to.Whole r }
 {
-    let ssid = r.ssid;
-    let bssid = r.bssid;
-    let tail = tail_bytes(r);
-    put_whole(out, at, &ssid);
-    put_whole(out, at + 32, &bssid);
-    put_whole(out, at + 38, &tail);
+    put_whole(out, at, &r.ssid);
+    put_whole(out, at + 32, &r.bssid);
+    put_whole(out, at + 38, &tail_bytes(r));
 }
 
 pub fn count_bytes(n: usize) -> [u8; 8]
     ensures { (result ≡ le64 n) × (le32_at result 0 + 4294967296 * le32_at result 4 ≡ n) }
 {
-    [
-        (n % 256) as u8,
-        (n / 256 % 256) as u8,
-        (n / 65536 % 256) as u8,
-        (n / 16777216 % 256) as u8,
-        (n / 4294967296 % 256) as u8,
-        (n / 1099511627776 % 256) as u8,
-        (n / 281474976710656 % 256) as u8,
-        (n / 72057594037927936 % 256) as u8,
-    ]
+    n.to_le_bytes()
 }

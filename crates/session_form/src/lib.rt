@@ -12,14 +12,8 @@ use crate::parts::{front_form, link_form, pending_form};
 pub fn is_session(bytes: &[u8]) -> bool
     ensures { result ≡ to.is_session bytes.now }
 {
-    if bytes.len() != 1393 {
-        return false;
-    }
-    if !front_form(&bytes[..7]) {
-        return false;
-    }
-    if !pending_form(&bytes[7..21]) {
-        return false;
-    }
-    link_form(&bytes[21..41])
+    bytes.len() == 1393
+        && front_form(&bytes[..7])
+        && pending_form(&bytes[7..21])
+        && link_form(&bytes[21..41])
 }

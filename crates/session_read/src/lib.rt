@@ -1,17 +1,15 @@
 // State and scan list from a session's bytes.
 #![tactic(auto)]
 
-ghost use Rattle.std.specs.Prelude.{◌≡◌, true, ◌≤◌, length, take, drop};
+ghost use Rattle.std.specs.Prelude.{◌≡◌, true, ◌+◌, ◌≤◌, length, take, drop};
 ghost use Rattle.session_bytes.specs.ListBytes as to;
 ghost use Rattle.session_bytes.specs.Session.{is_session, session_in};
 
 use places_read::{frame_at, link_at, marks_at, reply_at, sdpcm_at};
 use signed::signed16;
-use slices::copy_over;
-use wlan::{Pending, ScanList, ScanRecord, State};
-use words::{get_le32, pair};
+use wlan::{Pending, ScanList, ScanRecord, SessionBytes, State};
 
-pub fn state_in(bytes: &[u8]) -> State
+pub fn state_in(bytes: &SessionBytes) -> State
     requires { is_session bytes.now ≡ true }
     ensures { result ≡ (session_in bytes.now).st }
 {
@@ -26,20 +24,14 @@ pub fn state_in(bytes: &[u8]) -> State
     }
 }
 
-fn ssid_in(p: &[u8]) -> [u8; 32]
-    requires { 42 ≤ length p.now }
-    ensures { result ≡ take 32 p.now }
+// The N bytes from index at on.
+fn bytes_at<const N: usize>(p: &[u8], at: usize) -> [u8; N]
+    requires { at + N ≤ length p.now }
+    ensures { result ≡ take N (drop at p.now) }
 {
-    let mut b = [0u8; 32];
-    copy_over(&mut b, 0, &p[0..32]);
-    b
-}
-
-fn bssid_in(p: &[u8]) -> [u8; 6]
-    requires { 42 ≤ length p.now }
-    ensures { result ≡ take 6 (drop 32 p.now) }
-{
-    [p[32], p[33], p[34], p[35], p[36], p[37]]
+    let mut bytes = [0u8; N];
+    bytes.copy_from_slice(&p[at..at + N]);
+    bytes
 }
 
 // The record that the first 42 bytes hold.
@@ -47,14 +39,12 @@ fn record_in(p: &[u8]) -> ScanRecord
     requires { 42 ≤ length p.now }
     ensures { result ≡ to.record_of p.now }
 {
-    let ssid = ssid_in(p);
-    let bssid = bssid_in(p);
     ScanRecord {
-        ssid: ssid,
-        bssid: bssid,
+        ssid: bytes_at(p, 0),
+        bssid: bytes_at(p, 32),
         ssid_len: p[38],
         channel: p[39],
-        rssi: signed16(pair(p[40], p[41])),
+        rssi: signed16(u16::from_le_bytes([p[40], p[41]])),
     }
 }
 
@@ -70,12 +60,8 @@ fn records_in(p: &[u8]) -> [ScanRecord; 32]
         rssi: 0,
     };
     let mut l = [none; 32];
-    let mut i = 0;
-    while i < 32 {
-        let at = 8 + 42 * i;
-        let r = record_in(&p[at..]);
-        l[i] = r;
-        i += 1;
+    for i in 0..32 {
+        l[i] = record_in(&p[8 + 42 * i..]);
     }
     l
 }
@@ -85,15 +71,13 @@ pub fn list_in(p: &[u8]) -> ScanList
     requires { length p.now ≡ 1352 }
     ensures { result ≡ to.list_in p.now }
 {
-    let records = records_in(p);
     ScanList {
-        records: records,
-        count: get_le32(p, 0) as usize + 4294967296 * get_le32(p, 4) as usize,
+        records: records_in(p),
+        count: usize::from_le_bytes(bytes_at(p, 0)),
     }
 }
 
-pub fn list_of(bytes: &[u8]) -> ScanList
-    requires { length bytes.now ≡ 1393 }
+pub fn list_of(bytes: &SessionBytes) -> ScanList
     ensures { result ≡ (session_in bytes.now).list }
 {
     list_in(&bytes[41..])

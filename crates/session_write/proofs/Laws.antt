@@ -6,7 +6,7 @@ use Prim.Native.Nat.{ℕ, ◌+◌, ◌*◌, ◌<◌}
 use native.Mathlib.Nat.{zero-add}
 use native.Mathlib.Numerals.{add-one}
 use native.Mathlib.Omega.{arith}
-use lib.ListN.{length, take, get_or, replicate, length-append, length-take}
+use lib.ListN.{length, take, get_or, replicate, length-take}
 use lib.Seq.{take-suc}
 use Rattle.slices.specs.Over.{over}
 use Rattle.slices.proofs.Over.{Run, run_more, over-append, over-whole}

@@ -6,33 +6,23 @@ use crate::report::reported;
 use crate::sum::{sum_bytes, sum_list};
 use hearing::count_in;
 use run_end::RunEnd;
+use wlan::SessionBytes;
 
 fn number(n: u64) {
     io::print_decimal(1, n);
     io::write_all(1, b" ");
 }
 
-fn byte(b: u8) {
-    number(b as u64);
-}
-
-fn numbers(b: &[u8]) {
-    let mut i = 0;
-    while i < b.len() {
-        byte(b[i]);
-        i += 1;
-    }
-}
-
 // The state's bytes; the failed join reported; the scan list's count and sum.
-pub fn end(r: RunEnd, s: &[u8])
+pub fn end(r: RunEnd, s: &SessionBytes)
     requires { is_session s.now ≡ true }
 {
-    numbers(&s[..41]);
-    let f = reported(r);
-    number(f[0]);
-    number(f[1]);
-    number(f[2]);
+    for &b in &s[..41] {
+        number(u64::from(b));
+    }
+    for part in reported(r) {
+        number(part);
+    }
     number(count_in(s) as u64);
     number(sum_list(s));
 }

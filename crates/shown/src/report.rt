@@ -1,8 +1,8 @@
 // The failed join that a poll reports.
 ghost use Rattle.std.specs.Prelude.{◌≡◌};
-ghost use Rattle.wlan.specs.declared.Outcome.{Outcome};
 ghost use Rattle.run_end.specs.RunEnd.{Tells};
 ghost use Rattle.shown.specs.Shown.{reported_of};
+ghost use Rattle.wlan.specs.Results.{Outcome};
 
 use run_end::RunEnd;
 

@@ -19,43 +19,33 @@ use Rattle.effects.specs.Args.{args_of}
 use Rattle.jobs.specs.declared.ExchangeCall.{ExchangeCall}
 use Rattle.jobs.specs.Jobs.{no_job, join_job, request_job, Begins, cut, call_of, longest}
 use Rattle.starting.specs.declared.Start.{Start}
-use Rattle.starting.specs.declared.StartKind.{StartKind}
 
-unfoldable pub step_by : StartKind → Start → Lens → State → CallStep
-step_by StartKind.Exchange x l s = exchanges_step x.job l x.stage s
-step_by StartKind.Done x l s = ends s false Before.None Ending.Done
-step_by StartKind.Refused x l s = refuses s false Before.None x.error
+-- what the call's run is handed; a call that is over at once uses nothing of it
+unfoldable pub job_of : Start → Job
+job_of (Start.Exchange j _) = j
+job_of Start.Done = no_job
+job_of (Start.Refused _) = no_job
 
-abbrev pub step_of : Start → Lens → State → CallStep
-step_of x l s = step_by x.kind x l s
+unfoldable pub step_of : Start → Lens → State → CallStep
+step_of (Start.Exchange j g) l s = exchanges_step j l g s
+step_of Start.Done l s = ends s false Before.None Ending.Done
+step_of (Start.Refused e) l s = refuses s false Before.None e
 
 -- the call begins so; s: the state before, t: after what the start itself changed
 abbrev pub Starts : Call → Bytes → Bytes → State → State → Start → Type 0
 Starts c first second s t x =
-    Begins c first second s (record { job = x.job; step = step_of x (lens_of (args_of x.job first second)) t })
+    Begins c first second s (record { job = job_of x; step = step_of x (lens_of (args_of (job_of x) first second)) t })
 
 -- the same of a call with its byte arguments a and b; the run is handed them cut
 abbrev pub CallStarts : ExchangeCall → Bytes → Bytes → State → State → Start → Type 0
 CallStarts c a b s t x =
     Starts (call_of c a b) (take (cut (longest c).first (length a)) a) (take (cut (longest c).second (length b)) b) s t x
 
-abbrev start : StartKind → Job → Stage → DriverError → Start
-start k j g e = record { kind = k; job = j; stage = g; error = e }
-
-abbrev pub exchange_from : Job → Stage → Start
-exchange_from j g = start StartKind.Exchange j g DriverError.InvalidArg
-
 abbrev pub single : Request → Ending → Start
-single q e = exchange_from (request_job q e) Stage.Single
-
-abbrev pub done_at_once : Start
-done_at_once = start StartKind.Done no_job Stage.Single DriverError.InvalidArg
-
-abbrev pub refused : Job → DriverError → Start
-refused j e = start StartKind.Refused j Stage.Single e
+single q e = Start.Exchange (request_job q e) Stage.Single
 
 abbrev pub invalid_arg : Start
-invalid_arg = refused no_job DriverError.InvalidArg
+invalid_arg = Start.Refused DriverError.InvalidArg
 
 -- a join's job, with its byte arguments uncut
 abbrev pub join_of : ℕ → Bytes → Bytes → Job

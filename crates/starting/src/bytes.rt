@@ -8,7 +8,7 @@ ghost use Rattle.jobs.specs.Jobs.{cut};
 ghost use Rattle.starting.specs.Starting as to;
 
 use crate::Start;
-use crate::kinds::{exchange_from, invalid_arg, refuse, single};
+use crate::kinds::{invalid_arg, single};
 use control::{Ending, Job, Stage};
 use jobs::jobs::join_job;
 use places::write::put_failure;
@@ -16,17 +16,15 @@ use places_read::wifi_at;
 use requests::Request;
 use requests::numbers::is_interface;
 use requests::security::{auth_of, too_long};
-use wlan::{ConnectFailure, DriverError, WifiState};
+use wlan::{DriverError, SessionBytes, WifiState};
 
 // The call is handed name and data cut at 2,020.
+#[tactic(auto, using(crate::proofs::Laws::variable, crate::proofs::Laws::variable_bad))]
 pub fn variable_start(interface: u32, name: &[u8], bytes: &[u8]) -> Start
     ensures { (st : state.State) → to.Starts (Call.write_iovar interface name.now bytes.now) (take (cut 2020 (length name.now)) name.now) (take (cut 2020 (length bytes.now)) bytes.now) st st result }
 {
-    if is_interface(interface) {
-        if name.len() + 1 + bytes.len() <= 2020 {
-            return single(Request::Variable(interface), Ending::Done);
-        }
-        return invalid_arg();
+    if is_interface(interface) && name.len() + 1 + bytes.len() <= 2020 {
+        return single(Request::Variable(interface), Ending::Done);
     }
     invalid_arg()
 }
@@ -39,29 +37,22 @@ fn join_of(auth: u32, ssid: &[u8], passphrase: &[u8]) -> Job
 }
 
 // The call is handed the SSID cut at 32 and the passphrase at 128. Where the link is down, the failure is cleared.
-pub fn join_start(auth: u32, ssid: &[u8], passphrase: &[u8], s: &mut [u8]) -> Start
+#[tactic(auto, using(crate::proofs::Laws::join_down, crate::proofs::Laws::join_busy, crate::proofs::Laws::join_bad, crate::proofs::Laws::held, crate::proofs::Laws::same))]
+pub fn join_start(auth: u32, ssid: &[u8], passphrase: &[u8], s: &mut SessionBytes) -> Start
     requires { is_session s.old ≡ true }
     ensures starts { to.Starts (Call.wifi_connect auth ssid.now passphrase.now) (take (cut 32 (length ssid.now)) ssid.now) (take (cut 128 (length passphrase.now)) passphrase.now) (session_in s.old).st (session_in s.new).st result }
     ensures holds { Holds s.new (with_state s.old (session_in s.new).st) }
 {
-    if auth < 6 {
-        let j = join_of(auth, ssid, passphrase);
-        let w = wifi_at(s);
-        match w {
-            WifiState::Down => {
-                put_failure(s, ConnectFailure::None);
-                return exchange_from(j, Stage::JoinBaWsize);
-            }
-            WifiState::Connecting => {
-                return refuse(j, DriverError::Busy);
-            }
-            WifiState::Connected => {
-                return refuse(j, DriverError::Busy);
-            }
-            WifiState::Disconnecting => {
-                return refuse(j, DriverError::Busy);
-            }
+    if 6 <= auth {
+        return invalid_arg();
+    }
+    match wifi_at(s) {
+        WifiState::Down => {
+            put_failure(s, None);
+            Start::Exchange(join_of(auth, ssid, passphrase), Stage::JoinBaWsize)
+        }
+        WifiState::Connecting | WifiState::Connected | WifiState::Disconnecting => {
+            Start::Refused(DriverError::Busy)
         }
     }
-    invalid_arg()
 }

@@ -10,9 +10,11 @@ use crate::plain::{
     get_start, gpio_start, init_start, leave_start, mac_start, scan_start, set_start, up_start,
 };
 use jobs::ExchangeCall;
+use wlan::SessionBytes;
 
 // a and b: its byte arguments.
-pub fn start(c: ExchangeCall, a: &[u8], b: &[u8], s: &mut [u8]) -> Start
+#[tactic(auto, using(crate::proofs::Laws::unbytes), unfolding(jobs::specs::Jobs::call_of, jobs::specs::Jobs::longest))]
+pub fn start(c: ExchangeCall, a: &[u8], b: &[u8], s: &mut SessionBytes) -> Start
     requires { is_session s.old ≡ true }
     ensures starts { to.CallStarts c a.now b.now (session_in s.old).st (session_in s.new).st result }
     ensures holds { Holds s.new (with_state s.old (session_in s.new).st) }

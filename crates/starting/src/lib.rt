@@ -9,18 +9,10 @@ pub mod plain;
 use control::{Job, Stage};
 use wlan::DriverError;
 
+// A call's exchanges, from a stage on; or the call is over at once.
 #[derive(Clone, Copy)]
-pub enum StartKind {
-    Exchange,
+pub enum Start {
+    Exchange(Job, Stage),
     Done,
-    Refused,
-}
-
-// stage is meant by Exchange alone, error by Refused alone.
-#[derive(Clone, Copy)]
-pub struct Start {
-    pub kind: StartKind,
-    pub job: Job,
-    pub stage: Stage,
-    pub error: DriverError,
+    Refused(DriverError),
 }

@@ -1,28 +1,21 @@
 -- What is read back is what was written.
-use mathlib.Core.Path.{◌≡◌, refl, sym, ap, ◌∙◌}
-use mathlib.Core.Bool.{Bool, true, false, true≢false}
-use mathlib.Core.List.{List, ◌∷◌, ◌++◌, append_assoc}
-use Prim.Native.Nat.{ℕ, suc, ◌+◌, ◌*◌, ◌-◌, ◌/◌, ◌%◌, ◌^◌, ◌≤◌, ◌<◌}
+use mathlib.Core.Path.{◌≡◌, refl, ap}
+use mathlib.Core.Bool.{Bool, true, false}
+use mathlib.Core.List.{List, [], ◌∷◌, ◌++◌}
+use Prim.Native.Nat.{ℕ, suc, ◌+◌, ◌*◌, ◌-◌, ◌/◌, ◌%◌, ◌≤◌, ◌<◌}
 use native.Mathlib.Omega.{arith}
 use lib.Dec.{eqb}
-use lib.ListN.{length, take, drop, length-append}
+use lib.ListN.{length, take, drop}
 use lib.IntN.{ℤ, pos, negsuc}
-use lib.Signed.{lt_z}
-use borrow.Author.Tests.{lt-ltb, le-ltb, ltb-true}
-use mir.Syntax.{Width, w16, w32}
-use mir.Val.{to_z, of_z, bits, hbits, SFits}
-use mir.Facts.{to_z-of_z}
-use Rattle.slices.specs.Over.{over}
+use borrow.Author.Tests.{lt-ltb, le-ltb}
+use mir.Syntax.{w16, w32, w64}
+use Rattle.std.specs.Int.{from_le_bytes}
+use mir.Val.{of_z, SFits}
 use Rattle.slices.specs.Le.{signed16, signed32}
-use Rattle.slices.proofs.Over.{Run, run_none, run_more}
-use Rattle.wlan.specs.declared.Link.{Link}
-use Rattle.wlan.specs.declared.StartedTick.{StartedTick}
 use Rattle.wlan.specs.declared.WifiAuth.{WifiAuth}
 use Rattle.wlan.specs.declared.WifiState.{WifiState}
 use Rattle.wlan.specs.declared.Pending.{Pending}
 use Rattle.wlan.specs.declared.PendingIoctlResp.{PendingIoctlResp}
-use Rattle.wlan.specs.declared.PendingResp.{PendingResp}
-use Rattle.wlan.specs.declared.PendingRx.{PendingRx}
 use Rattle.wlan.specs.declared.ScanMarks.{ScanMarks}
 use Rattle.wlan.specs.declared.Sdpcm.{Sdpcm}
 use Rattle.wlan.specs.declared.State.{State}
@@ -32,11 +25,11 @@ use Rattle.state_bytes.specs.declared.parts.ReplyParts.{ReplyParts}
 use Rattle.state_bytes.specs.declared.parts.FrameParts.{FrameParts}
 use Rattle.state_bytes.specs.declared.parts.TickParts.{TickParts}
 use Rattle.connect_failure.specs.declared.FailureParts.{FailureParts}
-use Rattle.connect_failure.specs.Parts.{failure_parts, failure_of}
-use Rattle.connect_failure.proofs.Laws.{failure-back}
 use Rattle.state_bytes.specs.Numbers.{bit, wifi_of, auth_number, unsigned16, unsigned32}
 use Rattle.state_bytes.specs.Parts.{waiting_reply, reply_parts, reply_of, frame_parts, frame_of, tick_parts, tick_of}
 use Rattle.state_bytes.specs.StateBytes.{front_bytes, reply_bytes, frame_bytes, pending_bytes, failure_bytes, tick_bytes, link_bytes, state_bytes, sdpcm_in, reply_in, frame_in, pending_in, failure_in, tick_in, link_in, marks_in, state_in}
+use Rattle.std.specs.Prelude.{Option, Some, None, ℕ}
+use Rattle.wlan.specs.declared.PendingBuf.{PendingBuf}
 
 pub bit-back : (b : Bool) → eqb (bit b) 1 ≡ b
 unfolding bit
@@ -59,74 +52,40 @@ auth-back WifiAuth.Wpa2MixedPsk = refl
 auth-back WifiAuth.Wpa3SaeAesPsk = refl
 auth-back WifiAuth.Wpa3Wpa2AesPsk = refl
 
-pub frame_back : (r : PendingRx) → frame_of (frame_parts r) ≡ r
+pub frame_back : (r : Option PendingBuf) → frame_of (frame_parts r) ≡ r
 unfolding frame_of frame_parts
-frame_back PendingRx.None = refl
-frame_back (PendingRx.Some b) = refl
+frame_back None = refl
+frame_back (Some b) = refl
 
-pub tick-back : (t : StartedTick) → tick_of (tick_parts t) ≡ t
+pub tick-back : (t : Option ℕ) → tick_of (tick_parts t) ≡ t
 unfolding tick_of tick_parts
-tick-back StartedTick.None = refl
-tick-back (StartedTick.Some n) = refl
+tick-back None = refl
+tick-back (Some n) = refl
 
 -- ---- le bytes
 
 pub le16-back : (n : ℕ) → n < 65536 → n % 256 + 256 * (n / 256 % 256) ≡ n
 le16-back n h = omega arith
 
--- digits to the base 256, each with the rest above it
-joined4 : (a b c d p q r n : ℕ) → a + 256 * p ≡ n → b + 256 * q ≡ p → c + 256 * r ≡ q → d ≡ r → a + 256 * b + 65536 * c + 16777216 * d ≡ n
-joined4 a b c d p q r n e f g h = omega arith
-
-digit1 : (n : ℕ) → n / 256 % 256 + 256 * (n / 65536) ≡ n / 256
-digit1 n = omega arith
-
-digit2 : (n : ℕ) → n / 65536 % 256 + 256 * (n / 16777216) ≡ n / 65536
-digit2 n = omega arith
-
-digit3 : (n : ℕ) → n / 16777216 % 256 + 256 * (n / 4294967296) ≡ n / 16777216
-digit3 n = omega arith
-
-digit4 : (n : ℕ) → n / 4294967296 % 256 + 256 * (n / 1099511627776) ≡ n / 4294967296
-digit4 n = omega arith
-
-digit5 : (n : ℕ) → n / 1099511627776 % 256 + 256 * (n / 281474976710656) ≡ n / 1099511627776
-digit5 n = omega arith
-
-digit6 : (n : ℕ) → n / 281474976710656 % 256 + 256 * (n / 72057594037927936) ≡ n / 281474976710656
-digit6 n = omega arith
-
-last32 : (n : ℕ) → n < 4294967296 → n / 16777216 % 256 ≡ n / 16777216
-last32 n h = omega arith
-
-last64 : (n : ℕ) → n < 18446744073709551616 → n / 72057594037927936 % 256 ≡ n / 72057594037927936
-last64 n h = omega arith
-
 pub le32-back : (n : ℕ) → n < 4294967296 → n % 256 + 256 * (n / 256 % 256) + 65536 * (n / 65536 % 256) + 16777216 * (n / 16777216 % 256) ≡ n
-le32-back n h = joined4 _ _ _ _ (n / 256) (n / 65536) (n / 16777216) n (omega arith) (digit1 n) (digit2 n) (last32 n h)
-
-joined8 : (a b c d p q r t n : ℕ) → a + 256 * p ≡ n → b + 256 * q ≡ p → c + 256 * r ≡ q → d + 256 * t ≡ r → a + 256 * b + 65536 * c + 16777216 * d + 4294967296 * t ≡ n
-joined8 a b c d p q r t n e f g h = omega arith
+le32-back n h = omega arith
 
 pub le64-back : (n : ℕ) → n < 18446744073709551616 → n % 256 + 256 * (n / 256 % 256) + 65536 * (n / 65536 % 256) + 16777216 * (n / 16777216 % 256) + 4294967296 * (n / 4294967296 % 256 + 256 * (n / 1099511627776 % 256) + 65536 * (n / 281474976710656 % 256) + 16777216 * (n / 72057594037927936 % 256)) ≡ n
-le64-back n h =
-    rw (joined4 _ _ _ _ (n / 1099511627776) (n / 281474976710656) (n / 72057594037927936) (n / 4294967296) (digit4 n) (digit5 n) (digit6 n) (last64 n h))
-    (joined8 _ _ _ _ (n / 256) (n / 65536) (n / 16777216) (n / 4294967296) n (omega arith) (digit1 n) (digit2 n) (digit3 n))
+le64-back n h = omega arith
 
--- ---- signed numbers in a width whose largest unsigned number is m
+-- ---- what `from_le_bytes` reads
 
--- below zero: the complement of the bits is a number that is not negative
-pub flipped : (w : Width) (m : ℕ) (x : ℤ) → 2 ^ bits w ≡ suc m → 2 ^ hbits w ≤ m → SFits w x → lt_z (to_z w (of_z w x)) (pos 0) ≡ true → to_z w (m - of_z w x) ≡ pos (m - of_z w x)
-flipped w m (pos n) e k f t =
-    let h : n < 0 = ltb-true n 0 (ap (λ (z : ℤ). lt_z z (pos 0)) (sym (to_z-of_z f)) ∙ t) in
-    absurd (omega arith)
-flipped w m (negsuc n) e k f t =
-    let q : m - (2 ^ bits w - suc n) ≡ n = omega (arith, e, k, f.sfits) in
-    rw q (simp (lt-ltb _ _ f.sfits))
+pub pair-is : (a b : ℕ) {n : ℕ} → n ≡ from_le_bytes w16 (a ∷ b ∷ []) → n ≡ a + 256 * b
+pair-is a b e = omega arith
 
-pub kept : (w : Width) (x : ℤ) → SFits w x → lt_z (to_z w (of_z w x)) (pos 0) ≡ false → to_z w (of_z w x) ≡ pos (of_z w x)
-kept w (pos n) f t = to_z-of_z f
-kept w (negsuc n) f t = absurd (true≢false (ap (λ (z : ℤ). lt_z z (pos 0)) (sym (to_z-of_z f)) ∙ t))
+pub quad-is : (a b c d : ℕ) {n : ℕ} → n ≡ from_le_bytes w32 (a ∷ b ∷ c ∷ d ∷ []) → n ≡ a + 256 * b + 65536 * c + 16777216 * d
+quad-is a b c d e = omega arith
+
+pub eight-is : (a b c d e f g h : ℕ) {n : ℕ} → n ≡ from_le_bytes w64 (a ∷ b ∷ c ∷ d ∷ e ∷ f ∷ g ∷ h ∷ [])
+    → n ≡ a + 256 * b + 65536 * c + 16777216 * d + 4294967296 * (e + 256 * f + 65536 * g + 16777216 * h)
+eight-is a b c d e f g h i = omega arith
+
+-- ---- signed numbers
 
 pub is-unsigned16 : (x : ℤ) → SFits w16 x → of_z w16 x ≡ unsigned16 x
 unfolding unsigned16
@@ -154,7 +113,7 @@ signed32-back (negsuc n) f =
 
 -- ---- the groups of a state
 
-pub reply-back : {p : ReplyParts} {x : PendingIoctlResp} → p ≡ waiting_reply x → signed32 p.status ≡ x.status → reply_of p ≡ PendingResp.Some x
+pub reply-back : {p : ReplyParts} {x : PendingIoctlResp} → p ≡ waiting_reply x → signed32 p.status ≡ x.status → reply_of p ≡ Some x
 unfolding reply_of waiting_reply
 reply-back {p} {x} e h = rw (h, e)
 

@@ -5,7 +5,7 @@ ghost use Rattle.state_bytes.specs.Parts as to;
 
 use crate::numbers::unsigned32;
 use signed::signed32;
-use wlan::{PendingBuf, PendingIoctlResp, PendingResp, PendingRx, StartedTick};
+use wlan::{PendingBuf, PendingIoctlResp};
 
 #[derive(Clone, Copy)]
 pub struct ReplyParts {
@@ -40,46 +40,46 @@ fn waiting_reply(x: PendingIoctlResp) -> ReplyParts
     }
 }
 
-pub fn reply_parts(r: PendingResp) -> ReplyParts
+pub fn reply_parts(r: Option<PendingIoctlResp>) -> ReplyParts
     ensures { (result ≡ to.reply_parts r) × (to.reply_of result ≡ r) }
 {
     match r {
-        PendingResp::None => ReplyParts {
+        None => ReplyParts {
             tag: 0,
             offset: 0,
             len: 0,
             status: 0,
         },
-        PendingResp::Some(x) => waiting_reply(x),
+        Some(x) => waiting_reply(x),
     }
 }
 
-pub fn reply_of(p: ReplyParts) -> PendingResp
+pub fn reply_of(p: ReplyParts) -> Option<PendingIoctlResp>
     ensures { result ≡ to.reply_of p }
 {
     if p.tag == 0 {
-        return PendingResp::None;
+        return None;
     }
     let b = PendingBuf {
         offset: p.offset,
         len: p.len,
     };
-    PendingResp::Some(PendingIoctlResp {
+    Some(PendingIoctlResp {
         buf: b,
         status: signed32(p.status),
     })
 }
 
-pub fn frame_parts(r: PendingRx) -> FrameParts
+pub fn frame_parts(r: Option<PendingBuf>) -> FrameParts
     ensures { result ≡ to.frame_parts r }
 {
     match r {
-        PendingRx::None => FrameParts {
+        None => FrameParts {
             tag: 0,
             offset: 0,
             len: 0,
         },
-        PendingRx::Some(b) => FrameParts {
+        Some(b) => FrameParts {
             tag: 1,
             offset: b.offset,
             len: b.len,
@@ -87,32 +87,32 @@ pub fn frame_parts(r: PendingRx) -> FrameParts
     }
 }
 
-pub fn frame_of(p: FrameParts) -> PendingRx
+pub fn frame_of(p: FrameParts) -> Option<PendingBuf>
     ensures { result ≡ to.frame_of p }
 {
     if p.tag == 0 {
-        return PendingRx::None;
+        return None;
     }
-    PendingRx::Some(PendingBuf {
+    Some(PendingBuf {
         offset: p.offset,
         len: p.len,
     })
 }
 
-pub fn tick_parts(t: StartedTick) -> TickParts
+pub fn tick_parts(t: Option<u64>) -> TickParts
     ensures { result ≡ to.tick_parts t }
 {
     match t {
-        StartedTick::None => TickParts { tag: 0, tick: 0 },
-        StartedTick::Some(n) => TickParts { tag: 1, tick: n },
+        None => TickParts { tag: 0, tick: 0 },
+        Some(n) => TickParts { tag: 1, tick: n },
     }
 }
 
-pub fn tick_of(p: TickParts) -> StartedTick
+pub fn tick_of(p: TickParts) -> Option<u64>
     ensures { result ≡ to.tick_of p }
 {
     if p.tag == 0 {
-        return StartedTick::None;
+        return None;
     }
-    StartedTick::Some(p.tick)
+    Some(p.tick)
 }

@@ -5,18 +5,12 @@ ghost use Rattle.definition.specs.Join.{is_dev_error};
 use wlan::DriverError;
 
 // What the Rust has as a `DevError`.
+#[tactic(auto, unfolding(definition::specs::Join::is_dev_error))]
 pub fn is_dev_error(e: DriverError) -> bool
     ensures { result ≡ is_dev_error e }
 {
-    match e {
-        DriverError::InvalidArg => true,
-        DriverError::Timeout => true,
-        DriverError::Io => true,
-        DriverError::Busy => false,
-        DriverError::WouldBlock => false,
-        DriverError::NoMem => false,
-        DriverError::Fault(_) => true,
-        DriverError::EventHeader => false,
-        DriverError::PastBuffer => false,
-    }
+    matches!(
+        e,
+        DriverError::InvalidArg | DriverError::Timeout | DriverError::Io | DriverError::Fault(_)
+    )
 }

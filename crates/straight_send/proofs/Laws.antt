@@ -12,7 +12,6 @@ use Rattle.slices.specs.Over.{over}
 use Rattle.slices.specs.Le.{round4}
 use Rattle.slices.proofs.Over.{over-nil}
 use Rattle.wlan.specs.declared.BusOp.{BusOp}
-use Rattle.wlan.specs.declared.Outcome.{Outcome}
 use Rattle.wlan.specs.declared.Success.{Success}
 use Rattle.definition.specs.Bus.{Bytes, words_of}
 use Rattle.definition.specs.Event.{event_of}
@@ -36,6 +35,7 @@ use Rattle.turning.specs.Turning as turning
 use Rattle.send_call.specs.SendCall as to
 use Rattle.straight_send.specs.Straight.{Answered, Straight, Both}
 use Rattle.send_call.proofs.Laws.{free-starts, ends_by, valued-ends, ready-goes, write-ends}
+use Rattle.std.specs.Prelude.{Ok}
 
 -- ---- the packet
 
@@ -84,7 +84,7 @@ module _ (frame : Bytes) (b d rec log log' : List ℕ) (b₀ f : Bytes) (room : 
       rw w s.answered.ready
 
   -- where the status is read
-  both_end : Both rec log log' n len f → turning.Ends e (go e (drop 0 rec) log 0 (call_tree (to.args_in frame) (to.asks_of (SendPoint.Ready 999 n)) (turning.world_in d f))) (ending.end_by (Outcome.Ok Success.Done) len) log' d f
+  both_end : Both rec log log' n len f → turning.Ends e (go e (drop 0 rec) log 0 (call_tree (to.args_in frame) (to.asks_of (SendPoint.Ready 999 n)) (turning.world_in d f))) (ending.end_by (Ok Success.Done) len) log' d f
   unfolding call_tree call_op send_op
   both_end h =
       let a = to.args_in frame in
@@ -97,5 +97,5 @@ module _ (frame : Bytes) (b d rec log log' : List ℕ) (b₀ f : Bytes) (room : 
       (λ y hv i hb. write-ends frame m q y f f i hb e (drop 3 rec) log' len n refl d 0 hv)))
 
   pub straight-ends : seq ≡ (session_in b).st.sdpcm.packet_tx_seq → Holds d (with_state b (spending (session_in b).st)) → f ≡ over (over b₀ 12 (data_part interface frame)) 0 (header (18 + length frame) seq 2) → Both rec log log' n len f
-      → turning.Ends e (go e (drop 0 rec) log 0 (call_shown (to.args_in frame) (to.start_in interface frame b) (event_of [] 0) (turning.world_in b b₀))) (ending.end_by (Outcome.Ok Success.Done) len) log' d f
+      → turning.Ends e (go e (drop 0 rec) log 0 (call_shown (to.args_in frame) (to.start_in interface frame b) (event_of [] 0) (turning.world_in b b₀))) (ending.end_by (Ok Success.Done) len) log' d f
   straight-ends hs hd hf h = ends_by (ap (λ t. go e (drop 0 rec) log 0 t) (free-starts frame b d interface seq b₀ s.free s.most hs hd hf)) (both_end h)

@@ -2,11 +2,10 @@
 // nothing is to be put back, and nothing is kept.
 #![tactic(auto)]
 
-ghost use Rattle.std.specs.Prelude.{◌≡◌, true, false, List, [], ℕ, ◌+◌, ◌≤◌, ◌<◌, eqb, length, drop};
+ghost use Rattle.std.specs.Prelude.{◌≡◌, true, false, List, [], ℕ, ◌+◌, ◌≤◌, ◌<◌, eqb, length, drop, Ok};
 ghost use Rattle.std.specs.Int.Bits.{bit_and};
 ghost use Rattle.slices.specs.Over.{over};
 ghost use Rattle.slices.specs.Le.{words_for};
-ghost use Rattle.wlan.specs.declared.Outcome.{Outcome};
 ghost use Rattle.wlan.specs.declared.Success.{Success};
 ghost use Rattle.definition.specs.Event.{event_of};
 ghost use Rattle.definition.specs.Packet.{header, data_part};
@@ -27,7 +26,7 @@ use places_read::sdpcm_at;
 use sdpcm::header::{next_seq, put_data, put_header};
 use sdpcm::status::f2_ready;
 use send_points::is_free;
-use wlan::BusOp;
+use wlan::{BusOp, SessionBytes};
 
 fn says_ready(status: u32) -> bool
     ensures { result ≡ true → (status < 4294967296) × (eqb (bit_and status 0x20) 0 ≡ false) }
@@ -51,7 +50,7 @@ fn ready_written(rec: &[u32]) -> bool
     says_ready(rec[1])
 }
 
-pub fn goes_straight(frame: &[u8], s: &[u8], rec: &[u32], log: &[u32]) -> bool
+pub fn goes_straight(frame: &[u8], s: &SessionBytes, rec: &[u32], log: &[u32]) -> bool
     requires { is_session s.now ≡ true }
     ensures { result ≡ true → straight.Straight (length frame.now) s.now rec.now (length log.now) }
 {
@@ -69,7 +68,7 @@ pub fn goes_straight(frame: &[u8], s: &[u8], rec: &[u32], log: &[u32]) -> bool
 }
 
 // Spends the sequence number.
-fn spend(s: &mut [u8]) -> u8
+fn spend(s: &mut SessionBytes) -> u8
     requires { is_session s.old ≡ true }
     ensures { (result ≡ (session_in s.old).st.sdpcm.packet_tx_seq) × Holds s.new (with_state s.old (spending (session_in s.old).st)) }
 {
@@ -102,14 +101,14 @@ fn log_both(n: u16, log: &mut [u32], buf: &[u8]) -> usize
 pub fn send_straight(
     interface: u8,
     frame: &[u8],
-    s: &mut [u8],
+    s: &mut SessionBytes,
     log: &mut [u32],
     buf: &mut [u8],
 ) -> usize
     requires s_value { is_session s.old ≡ true }
     requires frame_len_bound { length frame.now ≤ 2022 }
     requires frame_in_bounds { 2 + words_for (18 + length frame.now) ≤ length log.old }
-    ensures on { (rec : List ℕ) → straight.Straight (length frame.now) s.old rec (length log.old) → (e : World) → turning.Ends e (go e (drop 0 rec) log.old 0 (call_shown (to.args_in frame.now) (to.start_in interface frame.now s.old) (event_of [] 0) (turning.world_in s.old buf.old))) (ending.end_by (Outcome.Ok Success.Done) result) log.new s.new buf.new }
+    ensures on { (rec : List ℕ) → straight.Straight (length frame.now) s.old rec (length log.old) → (e : World) → turning.Ends e (go e (drop 0 rec) log.old 0 (call_shown (to.args_in frame.now) (to.start_in interface frame.now s.old) (event_of [] 0) (turning.world_in s.old buf.old))) (ending.end_by (Ok Success.Done) result) log.new s.new buf.new }
     ensures held { is_session s.new ≡ true }
 {
     let seq = spend(s);

@@ -1,8 +1,7 @@
 // `take` on a session's bytes where they lie. It asks nothing of the bus and leaves the scan list.
 #![tactic(auto)]
 
-ghost use Rattle.std.specs.Prelude.{◌≡◌, true, List, ℕ, length};
-ghost use Rattle.wlan.specs.declared.Outcome.{Outcome};
+ghost use Rattle.std.specs.Prelude.{◌≡◌, true, List, ℕ, length, Err};
 ghost use Rattle.wlan.specs.declared.Refusal.{Refusal};
 ghost use Rattle.definition.specs.Calls.{Call};
 ghost use Rattle.definition.specs.Run.{called};
@@ -15,11 +14,11 @@ ghost use Rattle.taking.specs.Taking as to;
 use places::write::put_frame;
 use places_read::frame_at;
 use run_end::{EndKind, RunEnd, error_end, no_failure, success_end};
-use wlan::{DriverError, PendingBuf, PendingRx, Success};
+use wlan::{DriverError, PendingBuf, SessionBytes, Success};
 
 // 13
 fn other_length() -> RunEnd
-    ensures { result ≡ end_by (Outcome.Refused Refusal.BufferLength) 0 }
+    ensures { result ≡ end_by (Err Refusal.BufferLength) 0 }
 {
     RunEnd {
         back: false,
@@ -31,11 +30,11 @@ fn other_length() -> RunEnd
 }
 
 // A frame that waits is given out, or dropped.
-fn take_frame(f: PendingBuf, s: &mut [u8], buf: &[u8], out: &mut [u8]) -> RunEnd
+fn take_frame(f: PendingBuf, s: &mut SessionBytes, buf: &[u8], out: &mut [u8]) -> RunEnd
     requires { is_session s.old ≡ true }
     ensures { (log : List ℕ) → to.Leaves (frame_taken f (world_in s.old buf.now) log out.old) log s.new buf.now out.new result }
 {
-    put_frame(s, PendingRx::None);
+    put_frame(s, None);
     let n = f.len as usize;
     let offset = f.offset as usize;
     if out.len() < n {
@@ -48,7 +47,7 @@ fn take_frame(f: PendingBuf, s: &mut [u8], buf: &[u8], out: &mut [u8]) -> RunEnd
     success_end(Success::Taken(f.len), 0)
 }
 
-pub fn run_take(s: &mut [u8], buf: &[u8], out: &mut [u8]) -> RunEnd
+pub fn run_take(s: &mut SessionBytes, buf: &[u8], out: &mut [u8]) -> RunEnd
     requires { is_session s.old ≡ true }
     ensures { (rec log : List ℕ) → to.Leaves (called (Call.get_rx_buf (length out.old)) (world_in s.old buf.now) rec log out.old) log s.new buf.now out.new result }
 {
@@ -57,7 +56,7 @@ pub fn run_take(s: &mut [u8], buf: &[u8], out: &mut [u8]) -> RunEnd
     }
     let rx = frame_at(s);
     match rx {
-        PendingRx::None => error_end(DriverError::WouldBlock, 0),
-        PendingRx::Some(f) => take_frame(f, s, buf, out),
+        None => error_end(DriverError::WouldBlock, 0),
+        Some(f) => take_frame(f, s, buf, out),
     }
 }

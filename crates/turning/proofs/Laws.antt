@@ -8,11 +8,8 @@ use native.Mathlib.Nat.{add-zero}
 use lib.ListN.{length, drop}
 use Rattle.slices.specs.Over.{over}
 use Rattle.slices.proofs.Over.{over-nil}
-use Rattle.wlan.specs.declared.BusAnswer.{BusAnswer}
 use Rattle.wlan.specs.declared.BusOp.{BusOp}
-use Rattle.wlan.specs.declared.ConnectFailure.{ConnectFailure}
 use Rattle.wlan.specs.declared.DriverError.{DriverError}
-use Rattle.wlan.specs.declared.Outcome.{Outcome}
 use Rattle.wlan.specs.declared.Refusal.{Refusal}
 use Rattle.wlan.specs.Outcome.{error_value, refusal_value}
 use Rattle.connect_failure.specs.Parts.{failure_parts}
@@ -31,13 +28,15 @@ use Rattle.undo.specs.Undo.{Kept}
 use Rattle.run_end.specs.declared.RunEnd.{RunEnd}
 use Rattle.run_end.specs.RunEnd as ending
 use Rattle.turning.specs.Turning as to
+use Rattle.std.specs.Prelude.{None, Ok, Err}
+use Rattle.wlan.specs.Results.{Outcome, fault_at}
 
 -- 8, 9 and 12
-rolled : (e : World) (c : Refusal) (log b : List ℕ) (buf : Bytes) (len : ℕ) → refusal_value c < 256 → to.Ends e (finish log len (rolled_back c e)) (record { back = true; kind = ending.refusal_kind c; value = refusal_value c; failure = failure_parts ConnectFailure.None; len = len }) log b buf
+rolled : (e : World) (c : Refusal) (log b : List ℕ) (buf : Bytes) (len : ℕ) → refusal_value c < 256 → to.Ends e (finish log len (rolled_back c e)) (record { back = true; kind = ending.refusal_kind c; value = refusal_value c; failure = failure_parts None; len = len }) log b buf
 unfolding finish log_of over
 rolled e c log b buf len f = rw (over-nil log len, add-zero) (record { tells = record { kind = refl; value = refl; failure = refl; fits = f }; len = refl; log = refl; output = refl; left = refl })
 
-pub backed : (e : World) (on : End) (c : Back) (log b : List ℕ) (buf : Bytes) (len : ℕ) → to.is_back c ≡ true → to.Ends e (followed e log len on c) (record { back = true; kind = to.back_kind c; value = 0; failure = failure_parts ConnectFailure.None; len = len }) log b buf
+pub backed : (e : World) (on : End) (c : Back) (log b : List ℕ) (buf : Bytes) (len : ℕ) → to.is_back c ≡ true → to.Ends e (followed e log len on c) (record { back = true; kind = to.back_kind c; value = 0; failure = failure_parts None; len = len }) log b buf
 backed e on Back.No log b buf len h = absurd (let z : ◌≡◌ {A = ℕ} 0 1 = cc in omega arith)
 backed e on Back.Unrecorded log b buf len h = rolled e Refusal.Unrecorded log b buf len (omega arith)
 backed e on Back.WrongAnswer log b buf len h = rolled e Refusal.WrongAnswer log b buf len (omega arith)
@@ -47,12 +46,12 @@ over-is : (e w : World) (o : Outcome) (log b : List ℕ) (buf : Bytes) (len : �
 unfolding finish log_of over
 over-is e w o log b buf len h f = rw (over-nil log len, add-zero) (record { tells = record { kind = refl; value = refl; failure = refl; fits = f }; len = refl; log = refl; output = refl; left = h })
 
-pub stopped : (e : World) (x : DriverError) (ws log b : List ℕ) (buf : Bytes) (len : ℕ) → error_value x < 256 → to.Ends e (go e ws log len (stop x (to.world_in b buf))) (ending.end_by (Outcome.Refused (Refusal.Driver x)) len) log b buf
-stopped e x ws log b buf len f = rw (go-stop e ws log len x (to.world_in b buf)) (over-is e (to.world_in b buf) (Outcome.Refused (Refusal.Driver x)) log b buf len refl f)
+pub stopped : (e : World) (x : DriverError) (ws log b : List ℕ) (buf : Bytes) (len : ℕ) → error_value x < 256 → to.Ends e (go e ws log len (stop x (to.world_in b buf))) (ending.end_by (Err (Refusal.Driver x)) len) log b buf
+stopped e x ws log b buf len f = rw (go-stop e ws log len x (to.world_in b buf)) (over-is e (to.world_in b buf) (Err (Refusal.Driver x)) log b buf len refl f)
 
 -- a call without output
-pub returned : (e : World) (r : Result) (ws log b : List ℕ) (buf : Bytes) (len : ℕ) → r.output ≡ [] → ending.SuccessFits r.success → to.Ends e (go e ws log len (ret r (to.world_in b buf))) (ending.end_by (Outcome.Ok r.success) len) log b buf
-returned e r ws log b buf len h f = rw (go-ret e ws log len r (to.world_in b buf), h) (over-is e (to.world_in b buf) (Outcome.Ok r.success) log b buf len refl f)
+pub returned : (e : World) (r : Result) (ws log b : List ℕ) (buf : Bytes) (len : ℕ) → r.output ≡ [] → ending.SuccessFits r.success → to.Ends e (go e ws log len (ret r (to.world_in b buf))) (ending.end_by (Ok r.success) len) log b buf
+returned e r ws log b buf len h f = rw (go-ret e ws log len r (to.world_in b buf), h) (over-is e (to.world_in b buf) (Ok r.success) log b buf len refl f)
 
 -- goes on where the two are the same
 pub not_back : (c : Back) → to.is_back c ≡ false → c ≡ Back.No
@@ -96,13 +95,13 @@ module _ (op : BusOp) {rec log log' : List ℕ} {pos len : ℕ} {b c : Bytes} (a
   landed n = rw n at h.left
 
   pub asked-value : (P : End → Type 0) → a.back ≡ Back.No → a.fault ≡ false
-      → ((y : Ans) → BusAnswer.Value a.value ≡ told y → InRange op y → c ≡ landing op y b → P (onward y)) → P before
+      → ((y : Ans) → Ok a.value ≡ told y → InRange op y → c ≡ landing op y b → P (onward y)) → P before
   unfolding answer_of
   asked-value P n g f = rw (← on-is n) (f reply (sym ((landed n).told ∙ ap (λ (t : Bool). answer_of t a.value) g)) (landed n).range (landed n).landed)
 
   -- a fault, and what follows it
   pub asked-faulted : (P : End → Type 0) → a.back ≡ Back.No → a.fault ≡ true
-      → ((y : Ans) → BusAnswer.Fault a.value ≡ told y → a.value < 256 → InRange op y → c ≡ landing op y b → P (onward y)) → P before
+      → ((y : Ans) → Err (fault_at a.value) ≡ told y → a.value < 256 → InRange op y → c ≡ landing op y b → P (onward y)) → P before
   unfolding answer_of SmallPlace
   asked-faulted P n g f =
       let p : SmallPlace (answer_of true a.value) = rw g at (landed n).place in
@@ -110,8 +109,8 @@ module _ (op : BusOp) {rec log log' : List ℕ} {pos len : ℕ} {b c : Bytes} (a
 
   -- 7
   pub asked-fault : a.back ≡ Back.No → a.fault ≡ true
-      → ((y : Ans) → BusAnswer.Fault a.value ≡ told y → InRange op y → c ≡ landing op y b → go e (drop a.pos rec) log' a.len (stop (DriverError.Fault a.value) (to.world_in d c)) ≡ onward y)
-      → to.Ends e before (ending.end_by (Outcome.Refused (Refusal.Driver (DriverError.Fault a.value))) a.len) log' d c
+      → ((y : Ans) → Err (fault_at a.value) ≡ told y → InRange op y → c ≡ landing op y b → go e (drop a.pos rec) log' a.len (stop (DriverError.Fault a.value) (to.world_in d c)) ≡ onward y)
+      → to.Ends e before (ending.end_by (Err (Refusal.Driver (DriverError.Fault a.value))) a.len) log' d c
   unfolding answer_of SmallPlace
   asked-fault n g f =
       let p : SmallPlace (answer_of true a.value) = rw g at (landed n).place in

@@ -19,19 +19,19 @@ use asking::{
 use poll_points::{PollAt, PollKind};
 use run_end::{EndKind, RunEnd, no_failure};
 use undo::put_back;
+use wlan::{SessionBytes, UndoBytes, WorkBuffer};
 
 // The operation at q.
 pub fn device_ask(
     q: PollAt,
     pos: usize,
     len: usize,
-    undo: &mut [u8],
+    undo: &mut UndoBytes,
     rec: &[u32],
     log: &mut [u32],
-    buf: &mut [u8],
+    buf: &mut WorkBuffer,
 ) -> Asked
     requires kept_2 { Kept undo.old }
-    requires buf_len { length buf.old ≡ 2048 }
     ensures asks { Asks (poll_op (point_of q)) rec.now log.old log.new pos len buf.old buf.new result }
     ensures kept { KeptOn undo.old undo.new buf.old buf.new }
 {
@@ -85,10 +85,9 @@ pub fn back_end(a: Asked) -> RunEnd
 }
 
 // The run is over: what it changed stays, or is put back. session₀ and buf₀: as they were before the call.
-pub fn settle(r: RunEnd, session: &mut [u8], undo: &[u8], buf: &mut [u8])
+pub fn settle(r: RunEnd, session: &mut SessionBytes, undo: &UndoBytes, buf: &mut WorkBuffer)
     requires kept { Kept undo.now }
     requires session_value { is_session session.old ≡ true }
-    requires buf_len { length buf.old ≡ 2048 }
     ensures { (session₀ log : List ℕ) (buf₀ : Bytes) (e : End) → is_session session₀ ≡ true → (r.back ≡ true → back_session undo.now session.old ≡ session₀) → (r.back ≡ true → back_buf undo.now buf.old ≡ buf₀) → to.Ends (to.world_in session₀ buf₀) e r log session.old buf.old → (is_session session.new ≡ true) × (to.world_in session.new buf.new ≡ world e.st e.buf e.list) }
 {
     if r.back {

@@ -10,10 +10,10 @@ ghost use Rattle.two_pass_read.specs.TwoPass.{laid_twice};
 fn unpack(dst: &mut [u8], words: &[u32])
     ensures { dst.new ≡ over dst.old 0 (bytes_of words.now) }
 {
-    let n = slices::fitting(dst.len() / 4, 0, words.len());
+    let n = words.len().min(dst.len() / 4);
     unpack_whole(dst, words, n);
     if n < words.len() {
-        put_words::put_cut(dst, 4 * n, words[n]);
+        put_words::put_le32(dst, 4 * n, words[n]);
     }
 }
 
@@ -23,10 +23,8 @@ fn unpack_whole(dst: &mut [u8], words: &[u32], n: usize)
     requires n_in_bounds_2 { 4 * n ≤ length dst.old }
     ensures { dst.new ≡ over dst.old 0 (bytes_of (take n words.now)) }
 {
-    let mut i = 0;
-    while i < n {
+    for i in 0..n {
         put_words::put_whole(dst, 4 * i, words[i]);
-        i += 1;
     }
 }
 
@@ -35,12 +33,10 @@ fn put_bytes(buf: &mut [u8], at: usize, words: &[u32], n: usize)
     ensures { buf.new ≡ over buf.old at (drop n (bytes_of words.now)) }
 {
     let all = 4 * words.len();
-    let count = slices::fitting(buf.len(), at, slices::fitting(all, n, all));
-    let mut i = 0;
-    while i < count {
+    let count = slices::fitting(buf.len(), at, all.saturating_sub(n));
+    for i in 0..count {
         let j = n + i;
         buf[at + i] = put_words::byte_of(words[j / 4], j % 4);
-        i += 1;
     }
 }
 
@@ -66,6 +62,6 @@ pub fn read_bytes(buf: &mut [u8], words: &[u32], n: usize)
     }
     let packet = &words[1..];
     unpack(buf, packet);
-    let at = slices::fitting(4 * words.len(), 4, n);
+    let at = n.min(4 * packet.len());
     put_tail(buf, at, words, n);
 }

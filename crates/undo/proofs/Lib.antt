@@ -1,4 +1,3 @@
-pub mod Eight
 pub mod Parts
 pub mod Laws
 pub mod Keeping

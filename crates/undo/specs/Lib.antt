@@ -1,2 +1,1 @@
-pub mod Le64
 pub mod Undo

@@ -12,11 +12,10 @@ use payload::put_name;
 fn revision(c: u32) -> u32
     ensures { result ≡ pick (eqb (c / 65536) 0) 0xffffffff (c / 65536) }
 {
-    let r = c / 65536;
-    if r == 0 {
-        return 0xffffffff;
+    match c / 65536 {
+        0 => u32::MAX,
+        r => r,
     }
-    r
 }
 
 pub fn put_country(part: &mut [u8], c: u32)
@@ -43,17 +42,14 @@ pub fn event_mask() -> [u8; 19]
 pub fn put_event_messages(part: &mut [u8])
     ensures { part.new ≡ over part.old 0 (to.event_messages).payload }
 {
-    let mask = event_mask();
     put_name(part, b"bsscfg:event_msgs");
     put_words::put_le32(part, 18, 0);
-    slices::copy_over(part, 22, &mask);
+    slices::copy_over(part, 22, &event_mask());
 }
 
 pub fn put_escan(part: &mut [u8])
     ensures { part.new ≡ over part.old 0 (to.escan).payload }
 {
-    let any = [255u8; 6];
-    let unset = [255u8; 16];
     put_name(part, b"escan");
     // Version; action, and a reserved half word.
     put_words::put_le32(part, 6, 1);
@@ -61,10 +57,10 @@ pub fn put_escan(part: &mut [u8])
     // SSID length and SSID.
     slices::fill_zero(part, 14, 36);
     // BSSID; BSS type, scan type.
-    slices::copy_over(part, 50, &any);
+    slices::copy_over(part, 50, &[255; 6]);
     slices::copy_over(part, 56, b"\x02\x00");
     // Probes; active, passive and home time.
-    slices::copy_over(part, 58, &unset);
+    slices::copy_over(part, 58, &[255; 16]);
     // The number of channels, a channel, and two bytes up to the last whole word.
     slices::fill_zero(part, 74, 8);
 }

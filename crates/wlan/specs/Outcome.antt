@@ -1,5 +1,5 @@
 -- The numbers and values of document 01 for each way a call ends.
-use Rattle.std.specs.Prelude.{ℕ}
+use Rattle.std.specs.Prelude.{ℕ, Ok, Err}
 use Rattle.wlan.specs.declared.DriverError.{DriverError}
 use Rattle.wlan.specs.declared.DriverError.TheVariants as error
 use Rattle.wlan.specs.declared.Refusal.{Refusal}
@@ -8,8 +8,7 @@ use Rattle.wlan.specs.declared.WlanPollResult.{WlanPollResult}
 use Rattle.wlan.specs.declared.WlanPollResult.TheVariants as poll
 use Rattle.wlan.specs.declared.Success.{Success}
 use Rattle.wlan.specs.declared.Success.TheVariants as success
-use Rattle.wlan.specs.declared.Outcome.{Outcome}
-use Rattle.wlan.specs.declared.Outcome.TheVariants as outcome
+use Rattle.wlan.specs.Results.{Outcome}
 
 -- 'Refusals', the first column
 abbrev pub error_number : DriverError → ℕ
@@ -57,8 +56,8 @@ poll_value (poll.ConnectFailed f) = 2
 
 -- the refusal, 0 for success
 abbrev pub refusal_of : Outcome → ℕ
-refusal_of (outcome.Ok x) = 0
-refusal_of (outcome.Refused r) = number_of r
+refusal_of (Ok x) = 0
+refusal_of (Err r) = number_of r
 
 -- the value, 0 where none
 abbrev pub success_value : Success → ℕ
@@ -69,5 +68,5 @@ success_value (success.Mac n) = n
 success_value (success.Word n) = n
 
 abbrev pub value_of : Outcome → ℕ
-value_of (outcome.Ok x) = success_value x
-value_of (outcome.Refused r) = refusal_value r
+value_of (Ok x) = success_value x
+value_of (Err r) = refusal_value r

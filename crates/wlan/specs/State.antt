@@ -1,22 +1,17 @@
 -- The state's fields, each changed by one definition. Nothing else writes a state out field by field.
-use Rattle.std.specs.Prelude.{ℕ, Bool, true, false}
+use Rattle.std.specs.Prelude.{ℕ, Bool, true, false, Option, None}
 use Rattle.wlan.specs.declared.WifiState.{WifiState}
 use Rattle.wlan.specs.declared.WifiState.TheVariants as wifi
 use Rattle.wlan.specs.declared.WifiAuth.{WifiAuth}
 use Rattle.wlan.specs.declared.WifiAuth.TheVariants as auth
-use Rattle.wlan.specs.declared.ConnectFailure.{ConnectFailure}
-use Rattle.wlan.specs.declared.ConnectFailure.TheVariants as failure
-use Rattle.wlan.specs.declared.StartedTick.{StartedTick}
-use Rattle.wlan.specs.declared.StartedTick.TheVariants as started
 use Rattle.wlan.specs.declared.Link.{Link}
-use Rattle.wlan.specs.declared.PendingResp.{PendingResp}
-use Rattle.wlan.specs.declared.PendingResp.TheVariants as resp
-use Rattle.wlan.specs.declared.PendingRx.{PendingRx}
-use Rattle.wlan.specs.declared.PendingRx.TheVariants as rx
 use Rattle.wlan.specs.declared.Pending.{Pending}
 use Rattle.wlan.specs.declared.ScanMarks.{ScanMarks}
 use Rattle.wlan.specs.declared.Sdpcm.{Sdpcm}
 use Rattle.wlan.specs.declared.State.{State}
+use Rattle.wlan.specs.declared.WifiConnectFailure.{WifiConnectFailure}
+use Rattle.wlan.specs.declared.PendingIoctlResp.{PendingIoctlResp}
+use Rattle.wlan.specs.declared.PendingBuf.{PendingBuf}
 
 -- a fresh state is what `new` gives
 abbrev pub fresh : State
@@ -30,14 +25,14 @@ fresh =
             requested_ioctl_id = 0;
             had_successful_packet = false;
           };
-      pending = record { ioctl_resp = resp.None; rx = rx.None };
+      pending = record { ioctl_resp = None; rx = None };
       scan = record { scan_done = false; scan_in_progress = false };
       link =
           record {
             state = wifi.Down;
-            connect_failure = failure.None;
+            connect_failure = None;
             current_auth = auth.Open;
-            disconnect_started_tick = started.None;
+            disconnect_started_tick = None;
           };
     }
 
@@ -82,23 +77,23 @@ set_id s n = sdpcm_of s.packet_tx_seq s.last_bus_data_credit s.wlan_flow_control
 abbrev pub set_mark : Sdpcm → Bool → Sdpcm
 set_mark s b = sdpcm_of s.packet_tx_seq s.last_bus_data_credit s.wlan_flow_control s.requested_ioctl_id b
 
-abbrev pub set_reply : Pending → PendingResp → Pending
+abbrev pub set_reply : Pending → Option PendingIoctlResp → Pending
 set_reply p x = record { ioctl_resp = x; rx = p.rx }
 
-abbrev pub set_frame : Pending → PendingRx → Pending
+abbrev pub set_frame : Pending → Option PendingBuf → Pending
 set_frame p x = record { ioctl_resp = p.ioctl_resp; rx = x }
 
-abbrev pub link_of : WifiState → ConnectFailure → WifiAuth → StartedTick → Link
+abbrev pub link_of : WifiState → Option WifiConnectFailure → WifiAuth → Option ℕ → Link
 link_of s f a t = record { state = s; connect_failure = f; current_auth = a; disconnect_started_tick = t }
 
 abbrev pub set_link_state : Link → WifiState → Link
 set_link_state l s = link_of s l.connect_failure l.current_auth l.disconnect_started_tick
 
-abbrev pub set_failure : Link → ConnectFailure → Link
+abbrev pub set_failure : Link → Option WifiConnectFailure → Link
 set_failure l f = link_of l.state f l.current_auth l.disconnect_started_tick
 
 abbrev pub set_auth : Link → WifiAuth → Link
 set_auth l a = link_of l.state l.connect_failure a l.disconnect_started_tick
 
-abbrev pub set_tick : Link → StartedTick → Link
+abbrev pub set_tick : Link → Option ℕ → Link
 set_tick l t = link_of l.state l.connect_failure l.current_auth t

@@ -1,8 +1,21 @@
-// The driver's types by value. Names are the Rust's; an `Option` is an enum of its own.
+// The driver's types by value. Names are the Rust's.
 // They stand at the root, since a proof writes a type's path out wherever it meets the type.
 #![tactic(auto)]
 
 pub mod setters;
+
+// What a caller lends: what packets, requests and replies lie in; the state and the scan list; what a call may have to put back.
+pub const WORK_BUFFER_LEN: usize = 2048;
+
+pub const SESSION_LEN: usize = 1393;
+
+pub const UNDO_LEN: usize = 3444;
+
+pub type WorkBuffer = [u8; WORK_BUFFER_LEN];
+
+pub type SessionBytes = [u8; SESSION_LEN];
+
+pub type UndoBytes = [u8; UNDO_LEN];
 
 // What the driver asks of the bus, and what it is answered.
 #[derive(Clone, Copy)]
@@ -20,12 +33,13 @@ pub enum BusOp {
     Wait(u32),
 }
 
-// An answer whose kind was tested: a number, or a fault's place.
 #[derive(Clone, Copy)]
-pub enum BusAnswer {
-    Value(u64),
-    Fault(u8),
+pub struct BusFault {
+    pub place: u8,
 }
+
+// An answer whose kind was tested.
+pub type BusAnswer = Result<u64, BusFault>;
 
 // The connection to the access point.
 #[derive(Clone, Copy)]
@@ -57,26 +71,13 @@ pub enum WifiConnectFailure {
     Timeout,
 }
 
-// `Option<WifiConnectFailure>`.
-#[derive(Clone, Copy)]
-pub enum ConnectFailure {
-    None,
-    Some(WifiConnectFailure),
-}
-
-// `Option<u64>`: the tick at which a disconnect began.
-#[derive(Clone, Copy)]
-pub enum StartedTick {
-    None,
-    Some(u64),
-}
-
+// disconnect_started_tick: the tick at which a disconnect began.
 #[derive(Clone, Copy)]
 pub struct Link {
     pub state: WifiState,
-    pub connect_failure: ConnectFailure,
+    pub connect_failure: Option<WifiConnectFailure>,
     pub current_auth: WifiAuth,
-    pub disconnect_started_tick: StartedTick,
+    pub disconnect_started_tick: Option<u64>,
 }
 
 // What waits in the work buffer.
@@ -92,24 +93,11 @@ pub struct PendingIoctlResp {
     pub status: i32,
 }
 
-// `Option<PendingBuf>`: a frame for `take`.
-#[derive(Clone, Copy)]
-pub enum PendingRx {
-    None,
-    Some(PendingBuf),
-}
-
-// `Option<PendingIoctlResp>`: a reply for the next `do_ioctl`.
-#[derive(Clone, Copy)]
-pub enum PendingResp {
-    None,
-    Some(PendingIoctlResp),
-}
-
+// ioctl_resp: a reply for the next `do_ioctl`; rx: a frame for `take`.
 #[derive(Clone, Copy)]
 pub struct Pending {
-    pub ioctl_resp: PendingResp,
-    pub rx: PendingRx,
+    pub ioctl_resp: Option<PendingIoctlResp>,
+    pub rx: Option<PendingBuf>,
 }
 
 // The SSID's bytes are zero past its length.
@@ -171,12 +159,14 @@ pub enum SdpcmPacket {
     },
 }
 
-// What a received packet is read as; `HeaderBeyond`: an event whose header length is above its size.
+// `HeaderBeyond`: an event whose header length is above its size.
 #[derive(Clone, Copy)]
-pub enum Received {
-    Packet(SdpcmPacket),
+pub enum RxError {
     HeaderBeyond,
 }
+
+// What a received packet is read as.
+pub type Received = Result<SdpcmPacket, RxError>;
 
 #[derive(Clone, Copy)]
 pub struct RxPacket {
@@ -253,8 +243,4 @@ pub enum Success {
     Word(u32),
 }
 
-#[derive(Clone, Copy)]
-pub enum Outcome {
-    Ok(Success),
-    Refused(Refusal),
-}
+pub type Outcome = Result<Success, Refusal>;

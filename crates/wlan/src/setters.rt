@@ -3,8 +3,7 @@ ghost use Rattle.std.specs.Prelude.{◌≡◌};
 ghost use Rattle.wlan.specs.State as to;
 
 use crate::{
-    ConnectFailure, Link, Pending, PendingResp, PendingRx, ScanMarks, Sdpcm, StartedTick, State,
-    WifiAuth, WifiState,
+    Link, Pending, PendingBuf, ScanMarks, Sdpcm, State, WifiAuth, WifiConnectFailure, WifiState,
 };
 
 pub fn fresh() -> State
@@ -19,8 +18,8 @@ pub fn fresh() -> State
             had_successful_packet: false,
         },
         pending: Pending {
-            ioctl_resp: PendingResp::None,
-            rx: PendingRx::None,
+            ioctl_resp: None,
+            rx: None,
         },
         scan: ScanMarks {
             scan_done: false,
@@ -28,9 +27,9 @@ pub fn fresh() -> State
         },
         link: Link {
             state: WifiState::Down,
-            connect_failure: ConnectFailure::None,
+            connect_failure: None,
             current_auth: WifiAuth::Open,
-            disconnect_started_tick: StartedTick::None,
+            disconnect_started_tick: None,
         },
     }
 }
@@ -38,96 +37,73 @@ pub fn fresh() -> State
 pub fn with_pending(s: State, x: Pending) -> State
     ensures { result ≡ to.with_pending s x }
 {
-    let mut t = s;
-    t.pending = x;
-    t
+    State { pending: x, ..s }
 }
 
 pub fn set_seq(s: Sdpcm, n: u8) -> Sdpcm
     ensures { result ≡ to.set_seq s n }
 {
-    let mut t = s;
-    t.packet_tx_seq = n;
-    t
+    Sdpcm {
+        packet_tx_seq: n,
+        ..s
+    }
 }
 
-// Flow and credit at once. It is made field by field, so that a compiler keeps it in registers.
+// Flow and credit at once.
 pub fn set_flow_credit(s: Sdpcm, flow: u8, credit: u8) -> Sdpcm
     ensures { result ≡ to.set_credit (to.set_flow s flow) credit }
 {
     Sdpcm {
-        packet_tx_seq: s.packet_tx_seq,
         last_bus_data_credit: credit,
         wlan_flow_control: flow,
-        requested_ioctl_id: s.requested_ioctl_id,
-        had_successful_packet: s.had_successful_packet,
+        ..s
     }
 }
 
 pub fn set_id(s: Sdpcm, n: u8) -> Sdpcm
     ensures { result ≡ to.set_id s n }
 {
-    let mut t = s;
-    t.requested_ioctl_id = n;
-    t
+    Sdpcm {
+        requested_ioctl_id: n,
+        ..s
+    }
 }
 
 pub fn set_mark(s: Sdpcm, b: bool) -> Sdpcm
     ensures { result ≡ to.set_mark s b }
 {
-    let mut t = s;
-    t.had_successful_packet = b;
-    t
+    Sdpcm {
+        had_successful_packet: b,
+        ..s
+    }
 }
 
-pub fn set_frame(p: Pending, x: PendingRx) -> Pending
+pub fn set_frame(p: Pending, x: Option<PendingBuf>) -> Pending
     ensures { result ≡ to.set_frame p x }
 {
-    let resp = p.ioctl_resp;
-    Pending {
-        ioctl_resp: resp,
-        rx: x,
-    }
+    Pending { rx: x, ..p }
 }
 
 pub fn set_link_state(l: Link, s: WifiState) -> Link
     ensures { result ≡ to.set_link_state l s }
 {
-    let f = l.connect_failure;
-    let a = l.current_auth;
-    let t = l.disconnect_started_tick;
-    Link {
-        state: s,
-        connect_failure: f,
-        current_auth: a,
-        disconnect_started_tick: t,
-    }
+    Link { state: s, ..l }
 }
 
-pub fn set_failure(l: Link, f: ConnectFailure) -> Link
+pub fn set_failure(l: Link, f: Option<WifiConnectFailure>) -> Link
     ensures { result ≡ to.set_failure l f }
 {
-    let s = l.state;
-    let a = l.current_auth;
-    let t = l.disconnect_started_tick;
     Link {
-        state: s,
         connect_failure: f,
-        current_auth: a,
-        disconnect_started_tick: t,
+        ..l
     }
 }
 
-pub fn set_tick(l: Link, t: StartedTick) -> Link
+pub fn set_tick(l: Link, t: Option<u64>) -> Link
     ensures { result ≡ to.set_tick l t }
 {
-    let s = l.state;
-    let f = l.connect_failure;
-    let a = l.current_auth;
     Link {
-        state: s,
-        connect_failure: f,
-        current_auth: a,
         disconnect_started_tick: t,
+        ..l
     }
 }

@@ -28,9 +28,9 @@ pub fn lay_request(buf: &mut [u8], r: Request, first: &[u8], second: &[u8])
 fn flags(r: Request, id: u8) -> usize
     ensures { result ≡ id * 65536 + (numbers r).interface * 4096 + (numbers r).kind }
 {
-    let i = request_interface(r) as usize;
-    let k = request_kind(r) as usize;
-    (id as usize) * 65536 + i * 4096 + k
+    let interface = request_interface(r) as usize;
+    let kind = request_kind(r) as usize;
+    usize::from(id) * 65536 + interface * 4096 + kind
 }
 
 // The 16 bytes before the payload.
@@ -54,7 +54,7 @@ pub fn copy_reply(buf: &mut [u8], offset: usize, n: usize)
 pub fn mac_in(buf: &[u8]) -> u64
     ensures { result ≡ mac_in buf.now }
 {
-    let high = words::get_be16(buf, 28) as u64;
-    let low = words::get_be32(buf, 30) as u64;
+    let high = u64::from(words::get_be16(buf, 28));
+    let low = u64::from(words::get_be32(buf, 30));
     high * 4294967296 + low
 }

@@ -7,15 +7,15 @@ use Rattle.answers.proofs.read_answer.Goals as goal
 
 pub returns-in-1 : goal.returns-in-1
 unfolding def.answer_of
-returns-in-1 c = rw (← c.word_at-head.ensures, c.in-1.is) (rw c.long.ensures.0 at (c.value_read.ensures []))
+returns-in-1 c = rw (← c.word_at-head.ensures, c.in-1.is) (rw c.from.ensures at (c.value_read.ensures []))
 
 pub returns-in-2 : goal.returns-in-2
 unfolding def.answer_of
-returns-in-2 c = rw (← c.word_at-head.ensures, c.in-2.is) (rw (c.long-in-2.ensures.0, c.word_at.ensures) at (c.value_read-in-2.ensures []))
+returns-in-2 c = rw (← c.word_at-head.ensures, c.in-2.is) (rw (c.from-in-2.ensures, c.word_at.ensures) at (c.value_read-in-2.ensures []))
 
 pub returns-in-3 : goal.returns-in-3
 unfolding def.answer_of
-returns-in-3 c = rw (← c.word_at-head.ensures, c.in-3.is) (rw c.long-in-3.ensures.0 at (c.value_read-in-3.ensures (bytes_of (drop 1 c.args.ws.now))))
+returns-in-3 c = rw (← c.word_at-head.ensures, c.in-3.is) (rw c.from-in-3.ensures at (c.value_read-in-3.ensures (bytes_of (drop 1 c.args.ws.now))))
 
 pub returns-in-4 : goal.returns-in-4
 unfolding def.answer_of

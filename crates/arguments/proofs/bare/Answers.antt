@@ -1,23 +1,39 @@
+use mathlib.Core.Path.{◌≡◌, sym, ◌∙◌}
+use mathlib.Core.Bool.{Bool, true, false}
+use mathlib.Core.List.{List}
+use Prim.Native.Nat.{ℕ}
+use native.Mathlib.Omega.{arith}
+use lib.Dec.{eqb}
+use lib.ListN.{length}
+use borrow.Author.Tests.{eqb-true, eqb-false}
 use Rattle.arguments.proofs.Numbered.{scan-is, leave-is, abort-is, poll-is, mac-is, bare-bad, up_is}
 use Rattle.arguments.proofs.bare.Goals as goal
 
-pub returns-then-args-ne0 : goal.returns-then-args-ne0
-returns-then-args-ne0 c = bare-bad c.args.call c.args.args.now c.requires c.if-args-ne0.true
+none : (a : List ℕ) (t : Bool) → t ≡ eqb (length a) 0 → t ≡ true → length a ≡ 0
+none a t e h = eqb-true (length a) 0 (sym e ∙ h)
+
+some : (a : List ℕ) (t : Bool) → t ≡ eqb (length a) 0 → t ≡ false → length a ≡ 0 → ⊥
+some a t e h = eqb-false (length a) 0 (sym e ∙ h)
+
+pub returns-then-not-is_empty : goal.returns-then-not-is_empty
+returns-then-not-is_empty c = bare-bad c.args.call c.args.args.now c.requires (some c.args.args.now _ c.is_empty.ensures c.if-not-is_empty.true)
 
 pub returns-in-2 : goal.returns-in-2
-returns-in-2 c = scan-is c.args.call c.args.args.now c.in-2.is c.if-args-ne0.false
+returns-in-2 c = scan-is c.args.call c.args.args.now _ _ c.in-2.is (none c.args.args.now _ c.is_empty.ensures c.if-not-is_empty.false)
 
 pub returns-in-4 : goal.returns-in-4
-returns-in-4 c = leave-is c.args.call c.args.args.now c.in-4.is c.if-args-ne0.false
+returns-in-4 c = leave-is c.args.call c.args.args.now _ _ c.in-4.is (none c.args.args.now _ c.is_empty.ensures c.if-not-is_empty.false)
 
 pub returns-in-5 : goal.returns-in-5
-returns-in-5 c = abort-is c.args.call c.args.args.now c.in-5.is c.if-args-ne0.false
+returns-in-5 c = abort-is c.args.call c.args.args.now _ _ c.in-5.is (none c.args.args.now _ c.is_empty.ensures c.if-not-is_empty.false)
 
 pub returns-in-6 : goal.returns-in-6
-returns-in-6 c = poll-is c.args.call c.args.args.now c.in-6.is c.if-args-ne0.false
+returns-in-6 c = poll-is c.args.call c.args.args.now c.in-6.is (none c.args.args.now _ c.is_empty.ensures c.if-not-is_empty.false)
 
 pub returns-in-10 : goal.returns-in-10
-returns-in-10 c = mac-is c.args.call c.args.args.now c.in-10.is c.if-args-ne0.false
+returns-in-10 c = mac-is c.args.call c.args.args.now _ _ c.in-10.is (none c.args.args.now _ c.is_empty.ensures c.if-not-is_empty.false)
 
 pub returns-in_default : goal.returns-in_default
-returns-in_default c = up_is c.args.call c.args.args.now c.requires c.in_default.in_default-own.rest.0.0.0.0.1 c.in_default.in_default-own.rest.0.0.0.1 c.in_default.in_default-own.rest.0.0.1 c.in_default.in_default-own.rest.0.1 c.in_default.in_default-own.rest.1 c.if-args-ne0.false
+returns-in_default c =
+    up_is c.args.call c.args.args.now c.requires _ _ (λ e. omega arith) (λ e. omega arith) (λ e. omega arith) (λ e. omega arith) (λ e. omega arith)
+    (none c.args.args.now _ c.is_empty.ensures c.if-not-is_empty.false)

@@ -1,8 +1,8 @@
 use Rattle.arguments.proofs.Numbered.{gpio-is, gpio-bad}
 use Rattle.arguments.proofs.gpio.Goals as goal
 
-pub returns-then-args-eq8 : goal.returns-then-args-eq8
-returns-then-args-eq8 c = gpio-is c.args.args.now c.get_le32.ensures c.get_le32-then-args-eq8.ensures c.if-args-eq8.true
+pub returns-then-args-ne8 : goal.returns-then-args-ne8
+returns-then-args-ne8 c = gpio-bad c.args.args.now c.if-args-ne8.true
 
 pub returns : goal.returns
-returns c = gpio-bad c.args.args.now c.if-args-eq8.false
+returns c = gpio-is c.args.args.now _ _ c.get_le32.ensures c.get_le32-2.ensures c.if-args-ne8.false

@@ -1,9 +1,11 @@
-use mathlib.Core.Path.{sym, ◌∙◌}
-use Rattle.arguments.proofs.Numbered.{join_is, join-bad}
+use Rattle.arguments.proofs.Numbered.{join_is, join-short, join-bad}
 use Rattle.arguments.proofs.join.Goals as goal
 
-pub returns-then-join_fits : goal.returns-then-join_fits
-returns-then-join_fits c = join_is c.args.args.now c.get_le32.ensures c.get_le32-n.ensures (sym c.join_fits.ensures ∙ c.if-join_fits.true)
+pub returns-in_err-rest : goal.returns-in_err-rest
+returns-in_err-rest c = rw c.from_residual.ensures (join-short c.args.args.now c.in_err-rest.ensures.cases)
+
+pub returns-in_err-ssid : goal.returns-in_err-ssid
+returns-in_err-ssid c = rw c.from_residual-in_err-ssid.ensures (join-bad c.args.args.now _ _ c.get_le32.ensures c.in_ok-rest.ensures.cases c.in_err-ssid.ensures.cases)
 
 pub returns : goal.returns
-returns c = join-bad c.args.args.now (sym c.join_fits.ensures ∙ c.if-join_fits.false)
+returns c = join_is c.args.args.now _ _ _ _ c.get_le32-2.ensures c.get_le32.ensures c.in_ok-rest.ensures.cases c.in_ok-ssid.ensures.cases

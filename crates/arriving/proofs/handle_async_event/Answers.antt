@@ -9,7 +9,7 @@ pub returns-then-offset-gt2000 : goal.returns-then-offset-gt2000
 returns-then-offset-gt2000 c = record { held = long-event _ _ _ (omega arith) c.handle_far.ensures.held; kept = c.handle_far.ensures.kept }
 
 pub handle_there-requires : goal.handle_there-requires
-handle_there-requires c = record { s_value = c.requires.s_value; kept_2 = c.requires.kept_2; buf_len = c.requires.buf_len; le_len = (omega arith, omega arith) }
+handle_there-requires c = record { s_value = c.requires.s_value; kept_2 = c.requires.kept_2; le_len = (omega arith, omega arith) }
 
 pub returns : goal.returns
 returns c = record { held = long-event _ _ _ (omega arith) c.handle_there.ensures.held; kept = c.handle_there.ensures.kept }

@@ -18,4 +18,4 @@ pub returns : goal.returns
 unfolding words_of landing is_wait
 returns c =
     let a = c.args in
-    λ b. law.asks-same (BusOp.WriteInterrupt a.v) a.rec.now a.log.now a.pos a.len 1 b _ (law.logged-one (BusOp.WriteInterrupt a.v) a.log.now a.len _ b refl (omega arith)) refl _ (λ x. refl) (law.heard-interrupt-write a.rec.now a.pos (a.len + 1) _ c.write_answer.ensures a.v)
+    rw c.from.ensures (λ b. law.asks-same (BusOp.WriteInterrupt a.v) a.rec.now a.log.now a.pos a.len 1 b _ (law.logged-one (BusOp.WriteInterrupt a.v) a.log.now a.len _ b refl (omega arith)) refl _ (λ x. refl) (law.heard-interrupt-write a.rec.now a.pos (a.len + 1) _ c.write_answer.ensures a.v))

@@ -16,4 +16,4 @@ pub returns : goal.returns
 unfolding words_of is_wait
 returns c =
     let a = c.args in
-    record { asks = law.asks-heard (BusOp.ReadPacket a.n) a.rec.now a.log.now a.pos a.len 1 a.buf.now _ (law.logged-one (BusOp.ReadPacket a.n) a.log.now a.len _ a.buf.now refl (omega arith)) refl _ _ c.packet_answer.ensures.heard; kept = c.packet_answer.ensures.kept }
+    rw c.from.ensures (record { asks = law.asks-heard (BusOp.ReadPacket a.n) a.rec.now a.log.now a.pos a.len 1 a.buf.now _ (law.logged-one (BusOp.ReadPacket a.n) a.log.now a.len _ a.buf.now refl (omega arith)) refl _ _ c.packet_answer.ensures.heard; kept = c.packet_answer.ensures.kept })

@@ -3,7 +3,6 @@ use mathlib.Core.Path.{◌≡◌, refl}
 use Prim.Native.Nat.{◌+◌, ◌-◌, ◌≤◌}
 use lib.ListN.{length, drop}
 use Rattle.slices.specs.Le.{words_for}
-use Rattle.wlan.specs.declared.BusAnswer.{BusAnswer}
 use Rattle.device.specs.Meaning.{landing}
 use Rattle.effects.specs.Answer.{answer_in}
 use Rattle.effects.proofs.Laws.{packet-bytes}
@@ -13,12 +12,16 @@ use Rattle.asking.proofs.Laws as law
 use borrow.Author.Rules.{rules}
 use Rattle.asking.proofs.packet_answer.Goals as goal
 use Rattle.asking.proofs.packet_answer.Goals.{Then-begins}
+use Rattle.std.specs.Prelude.{Ok}
+
+begun : (c : Then-begins) → to.Begins c.args.rec.now c.args.pos (2 + words_for c.args.n) (0x30000000 + c.args.n)
+begun c = rw (c.from.ensures, c.from-2.ensures) at (c.begins.ensures c.if-begins.true)
 
 there : (c : Then-begins) → c.args.pos + (2 + words_for c.args.n) ≤ length c.args.rec.now
-there c = (c.begins.ensures c.if-begins.true).there
+there c = (begun c).there
 
-got : (c : Then-begins) → to.Got (BusAnswer.Value c.args.n) (BusOp.ReadPacket c.args.n) c.args.rec.now c.args.pos (c.args.pos + (2 + words_for c.args.n))
-got c = law.packet-got c.args.rec.now c.args.pos c.args.n (2 + words_for c.args.n) (omega arith) refl (c.begins.ensures c.if-begins.true)
+got : (c : Then-begins) → to.Got (Ok c.args.n) (BusOp.ReadPacket c.args.n) c.args.rec.now c.args.pos (c.args.pos + (2 + words_for c.args.n))
+got c = law.packet-got c.args.rec.now c.args.pos c.args.n (2 + words_for c.args.n) (omega arith) refl (begun c)
 
 pub overflow_add-pos : goal.overflow_add-pos
 overflow_add-pos c = omega (arith, there (goal.at.overflow_add-pos c).Then-begins)
@@ -40,5 +43,5 @@ unfolding landing answer_in
 returns-then-begins c =
     let a = c.args in
     let k : a.pos + (2 + words_for a.n) - (a.pos + 1) ≡ 1 + words_for a.n = omega arith in
-    let l : _ ≡ landing (BusOp.ReadPacket a.n) (answer_in (BusAnswer.Value a.n) (drop a.pos a.rec.now)) a.buf.now = rw (k, packet-bytes a.n a.rec.now a.pos (BusAnswer.Value a.n) a.n refl (got (goal.at.returns-then-begins c).Then-begins).taken) at c.read_bytes.ensures in
-    record { heard = law.read-in (BusOp.ReadPacket a.n) a.rec.now a.pos a.len _ a.n _ a.buf.now _ (got (goal.at.returns-then-begins c).Then-begins) c.answered.ensures l; kept = law.kept-packet a.n (BusAnswer.Value a.n) a.rec.now a.pos a.undo.now _ a.buf.now _ (got (goal.at.returns-then-begins c).Then-begins).taken (search rules) (search rules) l c.keep.ensures.0 c.keep.ensures.1 c.keep.ensures.2 c.keep.ensures.3 c.keep.ensures.5 }
+    let l : _ ≡ landing (BusOp.ReadPacket a.n) (answer_in (Ok a.n) (drop a.pos a.rec.now)) a.buf.now = rw (c.from-then-begins-2.ensures, c.from.ensures, k, packet-bytes a.n a.rec.now a.pos (Ok a.n) a.n refl (got (goal.at.returns-then-begins c).Then-begins).taken) at c.read_bytes.ensures in
+    record { heard = law.read-in (BusOp.ReadPacket a.n) a.rec.now a.pos a.len _ a.n _ a.buf.now _ (got (goal.at.returns-then-begins c).Then-begins) (rw (c.from-then-begins-3.ensures, c.from.ensures) at c.answered.ensures) l; kept = law.kept-packet a.n (Ok a.n) a.rec.now a.pos a.undo.now _ a.buf.now _ (got (goal.at.returns-then-begins c).Then-begins).taken (search rules) (search rules) l c.keep.ensures.0 (rw c.from-then-begins.ensures at c.keep.ensures.1) c.keep.ensures.2 c.keep.ensures.3 c.keep.ensures.5 }

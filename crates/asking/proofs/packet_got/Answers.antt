@@ -12,4 +12,4 @@ taken_as-requires c = record { op_value = refl; x_value = c.requires.x_value }
 pub returns : goal.returns
 returns c =
     let a = c.args in
-    record { heard = law.heard-in (BusOp.ReadPacket a.n) a.rec.now a.pos a.len _ a.buf.now _ a.x c.taken_as.ensures c.land.ensures; kept = law.kept-packet a.n a.x a.rec.now a.pos a.undo.now _ a.buf.now _ c.requires.x_value (search rules) (search rules) c.land.ensures c.keep.ensures.0 c.keep.ensures.1 c.keep.ensures.2 c.keep.ensures.3 c.keep.ensures.5 }
+    record { heard = law.heard-in (BusOp.ReadPacket a.n) a.rec.now a.pos a.len _ a.buf.now _ a.x c.taken_as.ensures c.land.ensures; kept = law.kept-packet a.n a.x a.rec.now a.pos a.undo.now _ a.buf.now _ c.requires.x_value (search rules) (search rules) c.land.ensures c.keep.ensures.0 (rw c.from.ensures at c.keep.ensures.1) c.keep.ensures.2 c.keep.ensures.3 c.keep.ensures.5 }

@@ -20,7 +20,7 @@ overflow_add-pos-then-begins c = omega (arith, (c.begins.ensures c.if-begins.tru
 pub returns-then-begins : goal.returns-then-begins
 returns-then-begins c =
     let a = c.args in
-    law.heard-got BusOp.ReadStatus _ _ _ _ c.long.result _ (rw c.long.ensures.0 (law.status-got a.rec.now a.pos (c.begins.ensures c.if-begins.true) (omega (arith, c.long.ensures.0, c.long.ensures.1)))) c.answered.ensures
+    law.heard-got BusOp.ReadStatus _ _ _ _ c.from.result _ (rw c.from.ensures (law.status-got a.rec.now a.pos (c.begins.ensures c.if-begins.true) (omega arith))) c.answered.ensures
 
 pub other-requires : goal.other-requires
 unfolding is_wait

@@ -11,10 +11,10 @@ overflow_add-next c =
     let a = c.args in
     omega (arith, turn.got-whole a.op a.rec.now a.pos a.x c.requires.x_value, c.answer_words.ensures ∙ ap size_of c.word_at.ensures)
 
-pub returns-in-Fault : goal.returns-in-Fault
+pub returns-in-Err : goal.returns-in-Err
 unfolding to.answer_of to.SmallPlace
-returns-in-Fault c = record { on = refl; answer = sym c.in-Fault.is; got = record { taken = c.requires.x_value; range = c.in_range.ensures; past = rw (← c.word_at.ensures, ← c.answer_words.ensures); place = rw c.in-Fault.is (search rules) }; logged = refl }
+returns-in-Err c = rw c.from.ensures (record { on = refl; answer = sym c.in-Err.is; got = record { taken = c.requires.x_value; range = c.in_range.ensures; past = rw (← c.word_at.ensures, ← c.answer_words.ensures); place = rw c.in-Err.is (search rules) }; logged = refl })
 
-pub returns-in-Value : goal.returns-in-Value
+pub returns-in-Ok : goal.returns-in-Ok
 unfolding to.answer_of to.SmallPlace
-returns-in-Value c = rw c.answered.ensures (record { on = refl; answer = sym c.in-Value.is; got = record { taken = c.requires.x_value; range = c.in_range.ensures; past = rw (← c.word_at.ensures, ← c.answer_words.ensures); place = rw c.in-Value.is tt }; logged = refl })
+returns-in-Ok c = rw c.answered.ensures (record { on = refl; answer = sym c.in-Ok.is; got = record { taken = c.requires.x_value; range = c.in_range.ensures; past = rw (← c.word_at.ensures, ← c.answer_words.ensures); place = rw c.in-Ok.is tt }; logged = refl })

@@ -6,8 +6,5 @@ use Rattle.call.proofs.end_of.Goals as goal
 pub state_in-requires : goal.state_in-requires
 state_in-requires c = c.requires
 
-pub list_of-requires : goal.list_of-requires
-list_of-requires c = session-length c.args.s.now c.requires
-
 pub returns : goal.returns
 returns c = λ e log buf h. ended e h (c.outcome_of.ensures e.outcome h.tells) c.state_in.ensures c.list_of.ensures refl

@@ -4,14 +4,14 @@ use Rattle.call.proofs.Laws as law
 use borrow.Author.Rules.{rules}
 use Rattle.call.proofs.poll.Goals as goal
 
-pub returns-then-buf-ne2048 : goal.returns-then-buf-ne2048
-returns-then-buf-ne2048 c = law.other-called (Call.wifi_poll) c.args.st c.args.list c.args.rec.now c.args.log.now c.args.buf.now c.other_length.ensures c.if-buf-ne2048.true
+pub returns-in_default : goal.returns-in_default
+returns-in_default c = law.other-called (Call.wifi_poll) c.args.st c.args.list c.args.rec.now c.args.log.now c.args.buf.now c.other_length.ensures c.in_default.ensures.cases
 
 pub run_poll-r-requires : goal.run_poll-r-requires
-run_poll-r-requires c = record { s_value = rw c.put_session.ensures.put c.put_session.ensures.back.0; undo_len = search rules; buf_len = omega (arith, c.if-buf-ne2048.false) }
+run_poll-r-requires c = record { s_value = rw c.put_session.ensures.put c.put_session.ensures.back.0 }
 
 pub end_of-requires : goal.end_of-requires
 end_of-requires c = c.run_poll-r.ensures.held
 
 pub returns : goal.returns
-returns c = law.by_value (Call.wifi_poll) c.args.st c.args.list c.args.rec.now c.args.log.now c.args.buf.now c.put_session.ensures.put c.put_session.ensures.back.1 c.run_poll-r.ensures c.end_of.ensures
+returns c = law.by_value (Call.wifi_poll) c.args.st c.args.list c.args.rec.now c.args.log.now c.args.buf.now c.put_session.ensures.put c.put_session.ensures.back.1 (rw c.in-Some.ensures.cases.same at c.run_poll-r.ensures) c.end_of.ensures

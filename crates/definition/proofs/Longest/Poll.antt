@@ -6,8 +6,6 @@ use lib.Dec.{ltb}
 use Rattle.slices.specs.Pick.{pick}
 use Rattle.slices.proofs.Pick.{by-pick}
 use Rattle.wlan.specs.declared.WifiState.{WifiState}
-use Rattle.wlan.specs.declared.StartedTick.{StartedTick}
-use Rattle.wlan.specs.declared.ConnectFailure.{ConnectFailure}
 use Rattle.wlan.specs.declared.SdpcmPacket.{SdpcmPacket}
 use Rattle.definition.specs.Bus.{Op, words_of, Ans}
 use Rattle.definition.specs.Prog.{World, Fin, fine, failed, poll_loop, bind, raise, valued, operate}
@@ -20,6 +18,8 @@ use Rattle.definition.proofs.Longest.Pays.{paid, after_loop, Pays, p-weaken, p-b
 use Rattle.definition.proofs.Longest.Runs.{Done, TurnQ, Turns}
 use Rattle.definition.proofs.Longest.Status.{PacketQ, status_left, status_read-pays}
 use Rattle.definition.proofs.Longest.Interrupt.{interrupt_read-pays, status_reads-pays}
+use Rattle.std.specs.Prelude.{Option, Some, None, ℕ}
+use Rattle.wlan.specs.declared.WifiConnectFailure.{WifiConnectFailure}
 
 -- ---- a poll of the device
 
@@ -52,18 +52,18 @@ turns =
 
 -- ---- after it: at most the tick
 
-timeout-pays : (s : WifiState) (t : StartedTick) (w : World) → Pays (λ (u : Unit {0}) n. 0) (λ n. 1) (disconnect_timeout s t w)
+timeout-pays : (s : WifiState) (t : Option ℕ) (w : World) → Pays (λ (u : Unit {0}) n. 0) (λ n. 1) (disconnect_timeout s t w)
 unfolding disconnect_timeout operate bind words_of
 timeout-pays WifiState.Down t w = λ n. omega arith
 timeout-pays WifiState.Connecting t w = λ n. omega arith
 timeout-pays WifiState.Connected t w = λ n. omega arith
-timeout-pays WifiState.Disconnecting StartedTick.None w = λ n. omega arith
-timeout-pays WifiState.Disconnecting (StartedTick.Some t) w = (λ n. omega arith, p-valued _ Op.read_tick (λ n. 1) _ w (λ v n. omega arith))
+timeout-pays WifiState.Disconnecting None w = λ n. omega arith
+timeout-pays WifiState.Disconnecting (Some t) w = (λ n. omega arith, p-valued _ Op.read_tick (λ n. 1) _ w (λ v n. omega arith))
 
-report-pays : (s : WifiState) (f : ConnectFailure) (w : World) → Pays Done (λ n. 0) (failure_report s f w)
+report-pays : (s : WifiState) (f : Option WifiConnectFailure) (w : World) → Pays Done (λ n. 0) (failure_report s f w)
 unfolding failure_report
-report-pays WifiState.Down ConnectFailure.None w = λ n. omega arith
-report-pays WifiState.Down (ConnectFailure.Some f) w = λ n. omega arith
+report-pays WifiState.Down None w = λ n. omega arith
+report-pays WifiState.Down (Some f) w = λ n. omega arith
 report-pays WifiState.Connecting f w = λ n. omega arith
 report-pays WifiState.Connected f w = λ n. omega arith
 report-pays WifiState.Disconnecting f w = λ n. omega arith

@@ -8,7 +8,6 @@ use borrow.Author.Tests.{leb-false}
 use lib.Dec.{leb}
 use lib.ListN.{length, length-append}
 use Rattle.slices.specs.Pick.{pick}
-use Rattle.wlan.specs.declared.Outcome.{Outcome}
 use Rattle.wlan.specs.declared.Refusal.{Refusal}
 use Rattle.definition.specs.Bus.{Op, words_of, log_of, Answer, Ans, Taken, got, wrong, taken_by}
 use Rattle.definition.specs.Prog.{World, Fin, fine, failed, Turn, again, out, stall_loop, reply_loop, poll_loop, Prog, ret, stop, ask, say, loop, note, attempt, turned}
@@ -18,6 +17,8 @@ use Rattle.definition.specs.Longest.{most}
 use Rattle.definition.proofs.Log.{after-fits}
 use Rattle.definition.proofs.Longest.Pays.{cost, paid, after_loop, Pays, FinQ, p-weaken, p-bind, p-attempt}
 use Rattle.definition.proofs.Longest.Words.{weight, total, Costs, taken-costs}
+use Rattle.std.specs.Prelude.{Ok, Err}
+use Rattle.wlan.specs.Results.{Outcome}
 
 -- nothing is logged after a call's result
 abbrev pub Done : Result → ℕ → ℕ
@@ -77,12 +78,12 @@ paused-pays room f q k u =
 
 -- any outcome but 12
 abbrev pub NotFull : Outcome → Type 0
-NotFull (Outcome.Ok x) = Unit {0}
-NotFull (Outcome.Refused (Refusal.Driver e)) = Unit {0}
-NotFull (Outcome.Refused Refusal.Unrecorded) = Unit {0}
-NotFull (Outcome.Refused Refusal.WrongAnswer) = Unit {0}
-NotFull (Outcome.Refused Refusal.LogFull) = ⊥
-NotFull (Outcome.Refused Refusal.BufferLength) = Unit {0}
+NotFull (Ok x) = Unit {0}
+NotFull (Err (Refusal.Driver e)) = Unit {0}
+NotFull (Err Refusal.Unrecorded) = Unit {0}
+NotFull (Err Refusal.WrongAnswer) = Unit {0}
+NotFull (Err Refusal.LogFull) = ⊥
+NotFull (Err Refusal.BufferLength) = Unit {0}
 
 -- what a run has logged is within the bound, and room for that is enough
 pub record Bounded (room bound : ℕ) (r : Run) : Type 0 where

@@ -5,7 +5,6 @@ use lib.Bits.{bit_and}
 use lib.Dec.{eqb}
 use Rattle.slices.proofs.Pick.{by-pick}
 use Rattle.wlan.specs.declared.SdpcmPacket.{SdpcmPacket}
-use Rattle.wlan.specs.declared.Received.{Received}
 use Rattle.definition.specs.Bus.{Op, words_of, Ans, fault, val}
 use Rattle.definition.specs.Prog.{World, M, bind, operate}
 use Rattle.definition.specs.Device.{pending, unreadable, packet_in, read_in, got_packet, arrived, by_status, status_read}
@@ -14,6 +13,9 @@ use Rattle.definition.specs.Longest.{most}
 use Rattle.definition.proofs.Walk.Course.{empty}
 use Rattle.definition.proofs.Longest.Most.{low, most-between}
 use Rattle.definition.proofs.Longest.Pays.{paid, Pays, p-weaken, p-valued}
+use Rattle.std.specs.Prelude.{Ok, Err}
+use Rattle.wlan.specs.Results.{Received}
+use Rattle.wlan.specs.declared.RxError.{RxError}
 
 -- what it leaves to log: after None the tick, after a packet the loop once more
 abbrev pub PacketQ : SdpcmPacket → ℕ → ℕ
@@ -31,8 +33,8 @@ packet-below (SdpcmPacket.Data o l i) n = (most-between n).below
 -- a packet came: of its words one is enough
 packet_in-pays : (r : Received) (w : World) (f : ℕ → ℕ) → ((n : ℕ) → low (n + 1) ≤ f n) → Pays PacketQ f (packet_in r w)
 unfolding packet_in
-packet_in-pays (Received.Packet p) w f h = λ n. omega (arith, packet-below p n, h n)
-packet_in-pays Received.HeaderBeyond w f h = tt
+packet_in-pays (Ok p) w f h = λ n. omega (arith, packet-below p n, h n)
+packet_in-pays (Err RxError.HeaderBeyond) w f h = tt
 
 got_packet-pays : (m : ℕ) (w : World) (f : ℕ → ℕ) → ((n : ℕ) → low (n + 1) ≤ f n) → Pays PacketQ f (got_packet m w)
 unfolding got_packet read_in

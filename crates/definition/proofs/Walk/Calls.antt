@@ -9,15 +9,10 @@ use Rattle.slices.specs.Pick.{pick}
 use Rattle.slices.specs.Le.{round4}
 use Rattle.slices.proofs.Pick.{by-pick}
 use Rattle.wlan.specs.declared.AsyncEvent.{AsyncEvent}
-use Rattle.wlan.specs.declared.ConnectFailure.{ConnectFailure}
-use Rattle.wlan.specs.declared.StartedTick.{StartedTick}
 use Rattle.wlan.specs.declared.WifiAuth.{WifiAuth}
 use Rattle.wlan.specs.declared.WifiState.{WifiState}
 use Rattle.wlan.specs.declared.DriverError.{DriverError}
 use Rattle.wlan.specs.declared.PendingIoctlResp.{PendingIoctlResp}
-use Rattle.wlan.specs.declared.PendingResp.{PendingResp}
-use Rattle.wlan.specs.declared.PendingRx.{PendingRx}
-use Rattle.wlan.specs.declared.Received.{Received}
 use Rattle.wlan.specs.declared.SdpcmPacket.{SdpcmPacket}
 use Rattle.wlan.specs.declared.State.{State}
 use Rattle.definition.specs.Bus.{Bytes, Op, Ans, fault, val, Place, nowhere}
@@ -34,6 +29,11 @@ use Rattle.definition.specs.Join.{is_dev_error, too_long, ignoring, tried, key_l
 use Rattle.definition.specs.Calls.{Call, is_interface, is_command, settled, init_sta, scan, disconnect, send, taken, gpio, mac, get, setting, variable_set, call}
 use Rattle.definition.proofs.Walk.Course.{Course, Steady, Plain, answering, noting, empty, Other}
 use Rattle.definition.proofs.Walk.Keeps.{BytesIn, Lawful, Gives, Free, LoopEnds, TurnEnds, FinQ, Keeps, k-ret, k-stop, k-ask, k-loop, k-note, k-bind, k-attempt, k-raise, k-pick, k-valued, k-operate, k-wait, k-pause}
+use Rattle.std.specs.Prelude.{Option, Some, None, Ok, Err, ℕ}
+use Rattle.wlan.specs.declared.WifiConnectFailure.{WifiConnectFailure}
+use Rattle.wlan.specs.declared.PendingBuf.{PendingBuf}
+use Rattle.wlan.specs.Results.{Received}
+use Rattle.wlan.specs.declared.RxError.{RxError}
 
 module _ (C : Course) (law : Steady C) where
   -- a part of a call keeps the course, and Q where it returns
@@ -66,8 +66,8 @@ module _ (C : Course) (law : Steady C) where
 
   packet_in-keeps : (r : Received) → Keeping (packet_in r)
   unfolding packet_in
-  packet_in-keeps (Received.Packet p) w g h = k-ret h
-  packet_in-keeps Received.HeaderBeyond w g h = k-stop h
+  packet_in-keeps (Ok p) w g h = k-ret h
+  packet_in-keeps (Err RxError.HeaderBeyond) w g h = k-stop h
 
   got_packet-keeps : (m : ℕ) (w : World) (g : C.Acc) → C.Landed m w (noting C (Note.received (declared w.buf) m) g) → Keeps C (Lawful C) (got_packet m w) g
   unfolding got_packet read_in
@@ -186,10 +186,10 @@ module _ (C : Course) (law : Steady C) where
   unfolding in_time
   in_time-keeps t0 t w g h = k-pick (ltb (elapsed t0 t) 500000) (λ e. k-bind _ (poll_device-keeps w g h) (reply_turn-keeps t0)) (λ e. k-stop h)
 
-  reply-keeps : (r : PendingResp) → Keeping (reply r)
+  reply-keeps : (r : Option PendingIoctlResp) → Keeping (reply r)
   unfolding reply
-  reply-keeps PendingResp.None w g h = k-bind {P = Lawful C} _ (k-operate law _ tt _ _ h) (λ t v j i. k-loop i (λ r u t j. k-raise {Q = Lawful C} r _ _ j))
-  reply-keeps (PendingResp.Some r) w g h = k-ret (law.changes.pending _ w g h)
+  reply-keeps None w g h = k-bind {P = Lawful C} _ (k-operate law _ tt _ _ h) (λ t v j i. k-loop i (λ r u t j. k-raise {Q = Lawful C} r _ _ j))
+  reply-keeps (Some r) w g h = k-ret (law.changes.pending _ w g h)
 
   do_ioctl-keeps : (r : Request) → Keeping (do_ioctl r)
   unfolding do_ioctl numbered
@@ -210,18 +210,18 @@ module _ (C : Course) (law : Steady C) where
   poll_turn-keeps (SdpcmPacket.AsyncEvent o l) w g h = k-ret (handled-keeps o l w g h)
   poll_turn-keeps (SdpcmPacket.Data o l i) w g h = k-pick (ltb l 14) (λ e. k-ret h) (λ e. k-ret (law.reporting o l w g e h))
 
-  disconnect_timeout-keeps : (s : WifiState) (t : StartedTick) → Keeping (disconnect_timeout s t)
+  disconnect_timeout-keeps : (s : WifiState) (t : Option ℕ) → Keeping (disconnect_timeout s t)
   unfolding disconnect_timeout timed_out
   disconnect_timeout-keeps WifiState.Down t w g h = k-ret h
   disconnect_timeout-keeps WifiState.Connecting t w g h = k-ret h
   disconnect_timeout-keeps WifiState.Connected t w g h = k-ret h
-  disconnect_timeout-keeps WifiState.Disconnecting StartedTick.None w g h = k-ret h
-  disconnect_timeout-keeps WifiState.Disconnecting (StartedTick.Some t) w g h = k-bind _ (k-operate law _ tt _ _ h) (λ m v j i. k-ret (by-pick (λ x. C.Holds x j) (leb 1000 (elapsed t m)) (λ e. law.changes.link _ v j i) (λ e. i)))
+  disconnect_timeout-keeps WifiState.Disconnecting None w g h = k-ret h
+  disconnect_timeout-keeps WifiState.Disconnecting (Some t) w g h = k-bind _ (k-operate law _ tt _ _ h) (λ m v j i. k-ret (by-pick (λ x. C.Holds x j) (leb 1000 (elapsed t m)) (λ e. law.changes.link _ v j i) (λ e. i)))
 
-  failure_report-keeps : (s : WifiState) (f : ConnectFailure) → Calling (failure_report s f)
+  failure_report-keeps : (s : WifiState) (f : Option WifiConnectFailure) → Calling (failure_report s f)
   unfolding failure_report
-  failure_report-keeps WifiState.Down ConnectFailure.None w g h = gives tt h
-  failure_report-keeps WifiState.Down (ConnectFailure.Some f) w g h = gives tt (law.changes.link _ w g h)
+  failure_report-keeps WifiState.Down None w g h = gives tt h
+  failure_report-keeps WifiState.Down (Some f) w g h = gives tt (law.changes.link _ w g h)
   failure_report-keeps WifiState.Connecting f w g h = gives tt h
   failure_report-keeps WifiState.Connected f w g h = gives tt h
   failure_report-keeps WifiState.Disconnecting f w g h = gives tt h
@@ -334,10 +334,10 @@ module _ (C : Course) (law : Steady C) where
       (λ w g h. k-bind {P = Lawful C} _ (k-bind _ (k-operate law _ tt _ _ h) settled-keeps)
       (λ u. then _ _ (waiting _ _ (then _ _ (waiting _ _ (λ v t i. gives tt i)))))))))))))
 
-  taken-keeps : (m : ℕ) (f : PendingRx) → Calling (taken m f)
+  taken-keeps : (m : ℕ) (f : Option PendingBuf) → Calling (taken m f)
   unfolding taken
-  taken-keeps m PendingRx.None w g h = k-stop h
-  taken-keeps m (PendingRx.Some f) w g h =
+  taken-keeps m None w g h = k-stop h
+  taken-keeps m (Some f) w g h =
       k-pick (ltb m f.len) (λ e. k-stop (law.changes.pending _ w g h))
       (λ e. k-pick (ltb 2048 (f.offset + f.len)) (λ u. k-stop (law.changes.pending _ w g h)) (λ u. gives tt (law.changes.pending _ w g h)))
 

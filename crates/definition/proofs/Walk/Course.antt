@@ -13,7 +13,6 @@ use Rattle.wlan.specs.declared.Link.{Link}
 use Rattle.wlan.specs.declared.Pending.{Pending}
 use Rattle.wlan.specs.declared.ScanMarks.{ScanMarks}
 use Rattle.wlan.specs.declared.ScanRecord.{ScanRecord}
-use Rattle.wlan.specs.declared.Outcome.{Outcome}
 use Rattle.wlan.specs.declared.Refusal.{Refusal}
 use Rattle.wlan.specs.declared.Success.{Success}
 use Rattle.wlan.specs.declared.WlanPollResult.{WlanPollResult}
@@ -27,6 +26,8 @@ use Rattle.definition.specs.Poll.{holding}
 use Rattle.definition.specs.Join.{frame_waits, reply_waits}
 use Rattle.definition.proofs.Bytewise.{Bytewise}
 use Rattle.definition.proofs.Walk.Events.{Event}
+use Rattle.std.specs.Prelude.{Ok, Err}
+use Rattle.wlan.specs.Results.{Outcome}
 
 -- neither a packet's read nor a write
 abbrev pub Plain : Op → Type 0
@@ -76,12 +77,12 @@ noting C n g = C.step (Event.noted n) g
 
 -- how a call ended; g₀: at entry, which 8, 9, 12 and 13 go back to
 abbrev pub CallEnds : (C : Course) → C.Acc → Outcome → World → C.Acc → Type 0
-CallEnds C g₀ (Outcome.Ok x) w g = C.Ended x w g
-CallEnds C g₀ (Outcome.Refused (Refusal.Driver e)) w g = C.Holds w g
-CallEnds C g₀ (Outcome.Refused Refusal.Unrecorded) w g = C.Holds w g₀
-CallEnds C g₀ (Outcome.Refused Refusal.WrongAnswer) w g = C.Holds w g₀
-CallEnds C g₀ (Outcome.Refused Refusal.LogFull) w g = C.Holds w g₀
-CallEnds C g₀ (Outcome.Refused Refusal.BufferLength) w g = C.Holds w g₀
+CallEnds C g₀ (Ok x) w g = C.Ended x w g
+CallEnds C g₀ (Err (Refusal.Driver e)) w g = C.Holds w g
+CallEnds C g₀ (Err Refusal.Unrecorded) w g = C.Holds w g₀
+CallEnds C g₀ (Err Refusal.WrongAnswer) w g = C.Holds w g₀
+CallEnds C g₀ (Err Refusal.LogFull) w g = C.Holds w g₀
+CallEnds C g₀ (Err Refusal.BufferLength) w g = C.Holds w g₀
 
 -- 'size and complement both 0'
 abbrev pub empty : Bytes → Bool

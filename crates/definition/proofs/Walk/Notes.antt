@@ -7,7 +7,6 @@ use Prim.Native.Nat.{ℕ}
 use lib.ListN.{length}
 use Rattle.slices.specs.Pick.{pick}
 use Rattle.wlan.specs.State.{with_sdpcm}
-use Rattle.wlan.specs.declared.Outcome.{Outcome}
 use Rattle.wlan.specs.declared.Refusal.{Refusal}
 use Rattle.definition.specs.Bus.{Bytes}
 use Rattle.definition.specs.Prog.{World, world, with_state, with_buf, Note}
@@ -22,6 +21,8 @@ use Rattle.definition.proofs.Bytewise.{Bytewise}
 use Rattle.definition.proofs.Walk.Events.{Event, events_of, note_of, all, along, Each}
 use Rattle.definition.proofs.Walk.Course.{Course, Changes, Steady, CallEnds}
 use Rattle.definition.proofs.Walk.Runs.{run_of-kept, run_of-told}
+use Rattle.std.specs.Prelude.{Ok, Err}
+use Rattle.wlan.specs.Results.{Outcome}
 
 -- ---- an invariant
 
@@ -110,12 +111,12 @@ notes-within f P (Event.answered x ∷ es) g h = notes-within f P es g h.1
 -- ---- along a list of calls
 
 counted-end : (I : Invariant) (o : Outcome) (w : World) (g₀ g : I.Acc) → CallEnds (course_of I) g₀ o w g → I.Holds w (pick (rolls_back o) g₀ g)
-counted-end I (Outcome.Ok x) w g₀ g h = h
-counted-end I (Outcome.Refused (Refusal.Driver e)) w g₀ g h = h
-counted-end I (Outcome.Refused Refusal.Unrecorded) w g₀ g h = h
-counted-end I (Outcome.Refused Refusal.WrongAnswer) w g₀ g h = h
-counted-end I (Outcome.Refused Refusal.LogFull) w g₀ g h = h
-counted-end I (Outcome.Refused Refusal.BufferLength) w g₀ g h = h
+counted-end I (Ok x) w g₀ g h = h
+counted-end I (Err (Refusal.Driver e)) w g₀ g h = h
+counted-end I (Err Refusal.Unrecorded) w g₀ g h = h
+counted-end I (Err Refusal.WrongAnswer) w g₀ g h = h
+counted-end I (Err Refusal.LogFull) w g₀ g h = h
+counted-end I (Err Refusal.BufferLength) w g₀ g h = h
 
 pub record CallKept (I : Invariant) (g : I.Acc) (r : Run) : Type 0 where
   pub law : I.Holds r.world (counted I.step r g)

@@ -8,7 +8,7 @@ use Rattle.exchange_call.proofs.call_turn.Goals as goal
 
 pub stand-requires : goal.stand-requires
 unfolding laid_before
-stand-requires c = let k = c.act-n.ensures false Before.None c.args.buf.now refl in record { s_value = k.held.known; kept_2 = k.kept; buf_len = omega (arith, c.requires.buf_len); len_in_bounds = c.requires.len_in_bounds }
+stand-requires c = let k = c.act-n.ensures false Before.None c.args.buf.now refl in record { s_value = k.held.known; kept_2 = k.kept; len_in_bounds = c.requires.len_in_bounds }
 
 pub returns : goal.returns
 unfolding laid_before

@@ -14,7 +14,7 @@ use Rattle.turning.specs.Turning.{world_in}
 use Rattle.exchange_call.proofs.exchange_run.Goals as goal
 
 pub call_run-requires : goal.call_run-requires
-call_run-requires c = record { s_value = c.requires.s_value; kept_2 = c.requires.kept_2; buf_len = c.requires.buf_len; second_len_bound = c.requires.second_len_bound; l_value = c.lens-l.ensures c.args.j }
+call_run-requires c = record { s_value = c.requires.s_value; kept_2 = c.requires.kept_2; second_len_bound = c.requires.second_len_bound; l_value = c.lens-l.ensures c.args.j }
 
 pub returns : goal.returns
 unfolding laid_before list_heard

@@ -13,13 +13,7 @@ pub returns-then-is_back : goal.returns-then-is_back
 returns-then-is_back c = let i = sym c.is_back.ensures ∙ c.if-is_back.true in record { on = λ first second m w e. let a = args_of c.args.j first second in let f : Fits a c.args.g c.stage_len.result = record { modest = m; len = c.stage_len.ensures ∙ ap (λ (z : Lens). request_len (request_at c.args.j c.args.g) z) w } in let x = asked_at a c.args.g e c.args.rec.now c.args.log.now c.args.pos c.args.len c.args.p c.args.s.now c.args.buf.now in over-turns a e x c.args.rec.now c.ioctl_run-t.new.log c.ioctl_run-t.new.s c.ioctl_run-t.new.buf c.over.result c.over.ensures.0 c.over.ensures.1 (rw (stood_back a c.args.g e x c.args.rec.now c.ioctl_run-t.result c.ioctl_run-t.new.log c.ioctl_run-t.new.s c.ioctl_run-t.new.buf i (c.ioctl_run-t.ensures.on a c.args.g f e)) at (c.back_end.ensures e x c.ioctl_run-t.new.log c.ioctl_run-t.new.s c.ioctl_run-t.new.buf i)); held = c.ioctl_run-t.ensures.held; kept = c.ioctl_run-t.ensures.kept; grew = λ t. absurd (true≢false (sym t ∙ c.over.ensures.0)) }
 
 pub exchange_plan-requires : goal.exchange_plan-requires
-exchange_plan-requires c = record { kept_2 = c.ioctl_run-t.ensures.kept.kept; buf_len = omega (arith, c.requires.buf_len) }
-
-pub shape_of-s : goal.shape_of-s
-shape_of-s c = omega (arith)
-
-pub shape_of-undo : goal.shape_of-undo
-shape_of-undo c = omega (arith)
+exchange_plan-requires c = record { kept_2 = c.ioctl_run-t.ensures.kept.kept }
 
 pub shape_of-log : goal.shape_of-log
 shape_of-log c = omega (arith)

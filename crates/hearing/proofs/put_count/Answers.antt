@@ -1,4 +1,4 @@
 use Rattle.hearing.proofs.put_count.Goals as goal
 
 pub returns : goal.returns
-returns c = rw (← c.count_bytes-b.ensures.0) c.put_whole.ensures
+returns c = rw (← c.count_bytes.ensures.0) c.put_whole.ensures

@@ -14,17 +14,8 @@ loop-t-smaller c = let o = goes_on c.loop-t.t (sym c.loop-t.invariant.asks ∙ c
 pub loop-t-preserved : goal.loop-t-preserved
 loop-t-preserved c = let o = goes_on c.loop-t.t (sym c.loop-t.invariant.asks ∙ c.loop-t-test.true) in let p = c.loop-t.invariant.room o.0 in let k = c.ioctl_turn-t.ensures.kept in record { log-len = search rules; buf-len = search rules; session-len = search rules; undo-len = search rules; held = c.ioctl_turn-t.ensures.held; kept = record { kept = k.kept; session = k.session ∙ c.loop-t.invariant.kept.session; buf = k.buf ∙ c.loop-t.invariant.kept.buf }; asks = c.ioctl_turn-t.ensures.asks; room = λ i. let q = c.ioctl_turn-t.ensures.grew i in (omega (arith, p.0, q.0), omega (arith, c.loop-t.invariant.log-len, q.1)); grew = λ h i. let q = c.ioctl_turn-t.ensures.grew i in omega (arith, p.0, q.0); turns = λ a g f e x h. rw (asks-on c.loop-t.t.now o.1 (stood_on a g e x c.args.rec.now c.loop-t.t c.loop-t.log c.loop-t.s c.loop-t.buf o.0 (c.loop-t.invariant.turns a g f e x h))) at (c.ioctl_turn-t.ensures.on a g f e) }
 
-pub shape_of-s : goal.shape_of-s
-shape_of-s c = c.loop-t.invariant.session-len
-
-pub shape_of-undo : goal.shape_of-undo
-shape_of-undo c = c.loop-t.invariant.undo-len
-
 pub shape_of-log : goal.shape_of-log
 shape_of-log c = c.loop-t.invariant.log-len
-
-pub shape_of-buf : goal.shape_of-buf
-shape_of-buf c = c.loop-t.invariant.buf-len
 
 pub returns : goal.returns
 returns c = let t₀ = c.ioctl_from-t.result in let w = c.ioctl_from-t.ensures in record { on = λ a g f e. c.loop-t.invariant.turns a g f e _ (on-stood a g e _ c.args.rec.now t₀ c.args.log.now c.args.s.now c.args.buf.now (rw w.3 refl) (rw (w.3, ← w.2) (begun-on t₀.now w.1))); asks = (c.loop-t-test.false, c.loop-t.invariant.asks); held = c.loop-t.invariant.held; kept = c.loop-t.invariant.kept; grew = λ i. (rw w.3 at (c.loop-t.invariant.grew c.loop-t-test.false i), (c.loop-t.invariant.room i).1) }

@@ -9,4 +9,4 @@ use Rattle.laying.proofs.copy_reply.Goals as goal
 
 pub returns : goal.returns
 unfolding laid_before laid_copy
-returns c = let n = c.args.n in let b = c.args.buf.now in record { laid = c.copy_reply.ensures; kept = rw c.copy_reply.ensures (laid_kept (28 + n) 28 (take n (drop c.args.offset b)) (record { kept = c.keep.ensures.0; to = c.keep.ensures.1; session = c.keep.ensures.2; buf = c.keep.ensures.3 }) c.requires.buf_len (omega arith) (omega (arith, length_part b c.args.offset n))) }
+returns c = let n = c.args.n in let b = c.args.buf.now in record { laid = c.copy_reply.ensures; kept = rw c.copy_reply.ensures (laid_kept (28 + n) 28 (take n (drop c.args.offset b)) (record { kept = c.keep.ensures.0; to = c.keep.ensures.1; session = c.keep.ensures.2; buf = c.keep.ensures.3 }) c.told-buf (omega arith) (omega (arith, length_part b c.args.offset n))) }

@@ -5,4 +5,4 @@ use Rattle.laying.proofs.lay_payload.Goals as goal
 
 pub returns : goal.returns
 unfolding laid_request
-returns c = record { laid = λ j. c.lay_request.ensures; kept = rw c.lay_request.ensures (laid_kept _ 28 _ c.keep_request.ensures c.requires.buf_len (omega arith) (omega arith)) }
+returns c = record { laid = λ j. c.lay_request.ensures; kept = rw c.lay_request.ensures (laid_kept _ 28 _ c.keep_request.ensures c.told-buf (omega arith) (omega arith)) }

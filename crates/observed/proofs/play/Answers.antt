@@ -3,7 +3,7 @@ use lib.ListN.{length-take}
 use Rattle.observed.proofs.play.Goals as goal
 
 pub play_call-r-requires : goal.play_call-r-requires
-play_call-r-requires c = record { s_value = c.requires.s_value; undo_len = c.requires.undo_len; buf_len = c.requires.buf_len; out_value = c.requires.out_value }
+play_call-r-requires c = record { s_value = c.requires.s_value; out_value = c.requires.out_value }
 
 pub slice_bounds-write_all-end-2 : goal.slice_bounds-write_all-end-2
 slice_bounds-write_all-end-2 c = simp length-take (omega arith)

@@ -10,9 +10,7 @@ pub play-requires : goal.play-requires
 play-requires c =
     record {
       s_value = c.requires.s_value;
-      undo_len = c.requires.undo_len;
       log_len_bound = c.requires.log_len_bound;
       out_value = output-zeros _ _ _ c.zero_bytes-out.ensures.value c.output_length-n.ensures c.requires.args_bound;
-      buf_len = c.requires.buf_len;
       in_bounds = c.requires.in_bounds;
     }

@@ -7,7 +7,7 @@ use Rattle.packing.proofs.pack.Goals as goal
 pub returns-then-n-bytes : goal.returns-then-n-bytes
 returns-then-n-bytes c =
     let a = c.args in
-    rw (c.put_word.ensures, c.get_le32.ensures, c.pack_whole.ensures) (packed-cut a.log.now a.bytes.now a.at c.fitting-n.result c.fitting-n.ensures c.if-n-bytes.true)
+    rw (c.put.ensures, c.get_le32.ensures, c.pack_whole.ensures) (packed-cut a.log.now a.bytes.now a.at c.fitting-n.result c.fitting-n.ensures c.if-n-bytes.true)
 
 pub returns-else-n-bytes : goal.returns-else-n-bytes
 returns-else-n-bytes c =

@@ -1,11 +1,7 @@
 -- i words are down.
-use Prim.Native.Nat.{◌-◌, ◌≤◌}
 use Rattle.slices.specs.Le.{packed}
 use Rattle.slices.proofs.Over.{Laid}
 use Rattle.packing.proofs.pack_whole.Given as goal
 
 abbrev pub invariant-loop-i : goal.invariant-loop-i
-invariant-loop-i l = (l.i ≤ l.n) × Laid l.initial.log l.at (packed l.bytes) l.i l.log
-
-abbrev pub decreases-loop-i : goal.decreases-loop-i
-decreases-loop-i l = l.n - l.i
+invariant-loop-i l = Laid l.initial.log l.at (packed l.bytes) l.i l.log

@@ -1,6 +1,5 @@
 -- The bytes of i eights are down.
-use borrow.Author.Rules.{rules}
-use Prim.Native.Nat.{◌*◌, ◌-◌}
+use Prim.Native.Nat.{◌*◌}
 use mathlib.Core.Path.{◌≡◌}
 use native.Mathlib.Omega.{arith}
 use lib.ListN.{take, length-take}
@@ -12,18 +11,15 @@ use Rattle.packing.proofs.unpack_eights.Goals as goal
 
 pub loop-i-init : goal.loop-i-init
 unfolding bytes_of
-loop-i-init c = (search rules, run_none)
+loop-i-init c = run_none
 
 pub loop-i-preserved : goal.loop-i-preserved
 loop-i-preserved c =
     let ws = c.args.words.now in
     let i = c.loop-i.i in
-    (search rules, rw (eights-more ws i) (run_more _ c.loop-i.invariant.1 (omega (arith, length-bytes_of (take (8 * i) ws), length-take (8 * i) ws)) c.put_eight.ensures))
-
-pub shape_of-dst : goal.shape_of-dst
-shape_of-dst c = c.loop-i.invariant.1.len
+    rw (eights-more ws i) (run_more _ c.loop-i.invariant (omega (arith, length-bytes_of (take (8 * i) ws), length-take (8 * i) ws)) c.put_eight.ensures)
 
 pub returns : goal.returns
 returns c =
     let e : c.loop-i.i ≡ c.args.n = omega arith in
-    rw e at c.loop-i.invariant.1.is
+    rw e at c.loop-i.invariant.is

@@ -1,16 +1,9 @@
-use Rattle.session_bytes.proofs.Laws.{session-length}
 use native.Mathlib.Omega.{arith}
 use lib.Seq.{get_or-take}
 use Rattle.state_bytes.specs.StateBytes.{state_in, marks_in}
 use Rattle.session_bytes.specs.Session.{session_in}
 use Rattle.places_read.proofs.marks_at.Goals as goal
 
-pub bounds-s-5 : goal.bounds-s-5
-bounds-s-5 c = omega (arith, session-length c.args.s.now c.requires)
-
-pub bounds-s-6 : goal.bounds-s-6
-bounds-s-6 c = omega (arith, session-length c.args.s.now c.requires)
-
 pub returns : goal.returns
 unfolding session_in state_in marks_in
-returns c = rw (c.is_one.ensures, c.is_one-2.ensures, get_or-take 7 c.args.s.now 5 0 (omega arith), get_or-take 7 c.args.s.now 6 0 (omega arith))
+returns c = rw (get_or-take 7 c.args.s.now 5 0 (omega arith), get_or-take 7 c.args.s.now 6 0 (omega arith))

@@ -1,12 +1,7 @@
-use Rattle.session_bytes.proofs.Laws.{session-length}
-use native.Mathlib.Omega.{arith}
 use Rattle.state_bytes.specs.StateBytes.{state_in, link_in}
 use Rattle.session_bytes.specs.Session.{session_in}
 use Rattle.places_read.proofs.Laws.{state-here}
 use Rattle.places_read.proofs.wifi_at.Goals as goal
-
-pub bounds-s-21 : goal.bounds-s-21
-bounds-s-21 c = omega (arith, session-length c.args.s.now c.requires)
 
 pub returns : goal.returns
 unfolding session_in state_in link_in

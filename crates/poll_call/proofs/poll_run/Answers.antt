@@ -5,7 +5,7 @@ use native.Mathlib.Omega.{arith}
 use Rattle.poll_call.proofs.poll_run.Goals as goal
 
 pub poll_on-requires : goal.poll_on-requires
-poll_on-requires c = record { s_value = c.first_turn-t.ensures.held.known; kept_2 = c.requires.kept_2; buf_len = c.requires.buf_len; len_in_bounds = λ t. omega (arith, c.first_turn-t.ensures.grew t) }
+poll_on-requires c = record { s_value = c.first_turn-t.ensures.held.known; kept_2 = c.requires.kept_2; len_in_bounds = λ t. omega (arith, c.first_turn-t.ensures.grew t) }
 
 pub returns : goal.returns
 unfolding first_point poll_start

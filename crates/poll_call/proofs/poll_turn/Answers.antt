@@ -25,14 +25,8 @@ returns-then-a c = record { on = λ e. let q = CallPoint.Poll (point_of c.args.p
 pub poll_now-requires : goal.poll_now-requires
 poll_now-requires c = c.poll_answer-n.ensures.held.known
 
-pub shape_of-undo : goal.shape_of-undo
-shape_of-undo c = omega (arith)
-
 pub shape_of-log : goal.shape_of-log
 shape_of-log c = omega (arith)
-
-pub shape_of-buf : goal.shape_of-buf
-shape_of-buf c = omega (arith)
 
 pub returns : goal.returns
 unfolding call_tree call_op

@@ -1,17 +1,11 @@
-use mathlib.Core.List.{[], ◌∷◌}
+use mathlib.Core.Path.{◌≡◌, ◌∙◌}
 use native.Mathlib.Omega.{arith}
-use lib.ListN.{length-set}
-use Rattle.slices.proofs.Over.{stores-over}
+use Rattle.slices.specs.Le.{le32}
+use Rattle.slices.proofs.Over.{put-over}
 use Rattle.put_words.proofs.put_whole.Goals as goal
 
-pub bounds-dst-at-2 : goal.bounds-dst-at-2
-bounds-dst-at-2 c = simp length-set (omega arith)
-
-pub bounds-dst-at-3 : goal.bounds-dst-at-3
-bounds-dst-at-3 c = simp length-set (omega arith)
-
-pub bounds-dst-at-4 : goal.bounds-dst-at-4
-bounds-dst-at-4 c = simp length-set (omega arith)
-
 pub returns : goal.returns
-returns c = stores-over _ _ _ (_ ∷ _ ∷ _ ∷ [])
+returns c =
+    let a = c.args in
+    let e : c.copy_from_slice.new.self ≡ le32 a.w = c.copy_from_slice.ensures.after ∙ c.to_le_bytes.ensures in
+    rw e (put-over _ _ _ (le32 a.w) c.requires (omega arith))

@@ -4,7 +4,6 @@ use mathlib.Core.Bool.{false}
 use mathlib.Core.List.{List, [], ◌∷◌}
 use types.Run.{OneOf, miss}
 use denote.Enum.Declared.{tag_of}
-use Rattle.send.specs.declared.HeaderPut.{HeaderPut}
 use Rattle.send.specs.Send as snd
 use Rattle.ioctl.specs.declared.IoctlPoint.{IoctlPoint}
 use Rattle.ioctl.specs.Ioctl.{ioctl_op, ioctl_answer, at_first, at_test, sending_step, sending_next}
@@ -15,6 +14,7 @@ use Rattle.reply_points.specs.ReplyPoints.{point_by, stall_of}
 use Rattle.reply_points.specs.contracts.IoctlKind.{the_type}
 use Rattle.replying.proofs.Laws.{still, unlaid}
 use Rattle.replying.proofs.ioctl_answer.Goals as goal
+use Rattle.std.specs.Prelude.{None}
 
 abbrev keys-stall : List ℕ
 keys-stall = 0 ∷ 1 ∷ 2 ∷ 3 ∷ []
@@ -46,7 +46,7 @@ returns-in-Writing c = rw c.in-Writing.is (unlaid _ c.requires.kept c.requires.s
 
 pub returns-in-First : goal.returns-in-First
 unfolding ioctl_answer at_first point_by
-returns-in-First c = rw c.in-First.is (unlaid _ c.requires.kept c.requires.s_value (still c.requires.s_value (rw (c.waits.ensures HeaderPut.None))))
+returns-in-First c = rw c.in-First.is (unlaid _ c.requires.kept c.requires.s_value (still c.requires.s_value (rw (c.waits.ensures None))))
 
 pub returns-in-Test : goal.returns-in-Test
 unfolding ioctl_answer at_test point_by
@@ -58,4 +58,4 @@ returns-in-Polling c = rw c.in-Polling.is c.reply_poll.ensures
 
 pub returns-in-Waited : goal.returns-in-Waited
 unfolding ioctl_answer point_by
-returns-in-Waited c = rw c.in-Waited.is (unlaid _ c.requires.kept c.requires.s_value (still c.requires.s_value (rw (c.waits-in-Waited.ensures HeaderPut.None))))
+returns-in-Waited c = rw c.in-Waited.is (unlaid _ c.requires.kept c.requires.s_value (still c.requires.s_value (rw (c.waits-in-Waited.ensures None))))

@@ -5,7 +5,6 @@ use lib.Dec.{ltb, leb}
 use lib.ListN.{length}
 use Rattle.wlan.specs.declared.WifiAuth.{WifiAuth}
 use Rattle.wlan.specs.declared.WifiState.{WifiState}
-use Rattle.wlan.specs.declared.PendingRx.{PendingRx}
 use Rattle.definition.specs.Bus.{Bytes, Place, nowhere, Op}
 use Rattle.definition.specs.Prog.{Fin, fine, failed, M, ◌>>◌, pause}
 use Rattle.definition.specs.Request.{Request, country, event_messages, escan, current_address, wlc_up, join_ssid, set_key, sae_password}
@@ -17,6 +16,8 @@ use Rattle.definition.specs.Calls.{Call, is_interface, is_command, settled, init
 use Rattle.secrecy.proofs.Places.Tree.{w-ret, w-stop, w-note, Does, w-bind, w-attempt, w-pick, w-operate, w-pause}
 use Rattle.secrecy.proofs.Places.Exchange.{send_common-w, do_ioctl-w, exchange-w}
 use Rattle.secrecy.proofs.Places.Poll.{poll-w}
+use Rattle.std.specs.Prelude.{Option, Some, None}
+use Rattle.wlan.specs.declared.PendingBuf.{PendingBuf}
 
 module _ (Q : Place → Type 0) where
   -- ---- join
@@ -57,10 +58,10 @@ module _ (Q : Place → Type 0) where
   unfolding settled
   settled-w t w = w-pick Q (ltb (elapsed 0 t % 4294967296) 150000) (w-pause Q _ w) w-ret
 
-  taken-w : (n : ℕ) (x : PendingRx) → Does Q (taken n x)
+  taken-w : (n : ℕ) (x : Option PendingBuf) → Does Q (taken n x)
   unfolding taken
-  taken-w n PendingRx.None w = w-stop
-  taken-w n (PendingRx.Some f) w = w-pick Q (ltb n f.len) w-stop (w-pick Q (ltb 2048 (f.offset + f.len)) w-stop w-ret)
+  taken-w n None w = w-stop
+  taken-w n (Some f) w = w-pick Q (ltb n f.len) w-stop (w-pick Q (ltb 2048 (f.offset + f.len)) w-stop w-ret)
 
   if_down-w : (m : M Result) (s : WifiState) → Does Q m → Does Q (if_down m s)
   unfolding if_down

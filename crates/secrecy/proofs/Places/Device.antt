@@ -4,7 +4,6 @@ use Prim.Native.Nat.{ℕ, zero, suc}
 use lib.Bits.{bit_and}
 use lib.Dec.{eqb}
 use Rattle.slices.specs.Pick.{pick}
-use Rattle.wlan.specs.declared.Received.{Received}
 use Rattle.wlan.specs.declared.SdpcmPacket.{SdpcmPacket}
 use Rattle.wlan.specs.declared.State.{State}
 use Rattle.definition.specs.Bus.{Place, Op, Ans}
@@ -12,12 +11,15 @@ use Rattle.definition.specs.Prog.{M}
 use Rattle.definition.specs.Packet.{size_in, complement_in}
 use Rattle.definition.specs.Device.{had_packet, pending, unreadable, packet_in, read_in, got_packet, arrived, by_status, status_read, status_reads, acknowledge, interrupt_read, poll_first, poll_by, poll_device}
 use Rattle.secrecy.proofs.Places.Tree.{PlaceIs, w-ret, w-stop, w-ask, w-say, w-note, Does, w-bind, w-pick, w-valued, w-operate}
+use Rattle.std.specs.Prelude.{Ok, Err}
+use Rattle.wlan.specs.Results.{Received}
+use Rattle.wlan.specs.declared.RxError.{RxError}
 
 module _ (Q : Place → Type 0) where
   packet_in-w : (r : Received) → Does Q (packet_in r)
   unfolding packet_in
-  packet_in-w (Received.Packet p) w = w-ret
-  packet_in-w Received.HeaderBeyond w = w-stop
+  packet_in-w (Ok p) w = w-ret
+  packet_in-w (Err RxError.HeaderBeyond) w = w-stop
 
   got_packet-w : (m : ℕ) → Does Q (got_packet m)
   unfolding got_packet read_in

@@ -1,8 +1,6 @@
 -- `poll`, and the turns of the loops.
 use mathlib.Core.Bool.{Bool, true, false}
 use lib.Dec.{ltb}
-use Rattle.wlan.specs.declared.ConnectFailure.{ConnectFailure}
-use Rattle.wlan.specs.declared.StartedTick.{StartedTick}
 use Rattle.wlan.specs.declared.WifiState.{WifiState}
 use Rattle.wlan.specs.declared.SdpcmPacket.{SdpcmPacket}
 use Rattle.wlan.specs.declared.State.{State}
@@ -12,6 +10,8 @@ use Rattle.definition.specs.Poll.{poll_turn, disconnect_timeout, failure_report,
 use Rattle.secrecy.proofs.Places.Tree.{PlaceIs, w-ret, w-loop, Does, w-bind, w-raise, w-pick, w-valued, w-operate}
 use Rattle.secrecy.proofs.Places.Device.{poll_by-w, poll_first-w}
 use Rattle.secrecy.proofs.Places.Exchange.{stall_turn-w, in_time-w}
+use Rattle.std.specs.Prelude.{Option, Some, None, ℕ}
+use Rattle.wlan.specs.declared.WifiConnectFailure.{WifiConnectFailure}
 
 module _ (Q : Place → Type 0) where
   poll_turn-w : (p : SdpcmPacket) → Does Q (poll_turn p)
@@ -21,18 +21,18 @@ module _ (Q : Place → Type 0) where
   poll_turn-w (SdpcmPacket.AsyncEvent o l) w = w-ret
   poll_turn-w (SdpcmPacket.Data o l i) w = w-pick Q (ltb l 14) w-ret w-ret
 
-  disconnect_timeout-w : (s : WifiState) (t : StartedTick) → Does Q (disconnect_timeout s t)
+  disconnect_timeout-w : (s : WifiState) (t : Option ℕ) → Does Q (disconnect_timeout s t)
   unfolding disconnect_timeout
   disconnect_timeout-w WifiState.Down t w = w-ret
   disconnect_timeout-w WifiState.Connecting t w = w-ret
   disconnect_timeout-w WifiState.Connected t w = w-ret
-  disconnect_timeout-w WifiState.Disconnecting StartedTick.None w = w-ret
-  disconnect_timeout-w WifiState.Disconnecting (StartedTick.Some t) w = w-bind Q _ (w-operate Q Op.read_tick tt w) (λ m v. w-ret)
+  disconnect_timeout-w WifiState.Disconnecting None w = w-ret
+  disconnect_timeout-w WifiState.Disconnecting (Some t) w = w-bind Q _ (w-operate Q Op.read_tick tt w) (λ m v. w-ret)
 
-  failure_report-w : (s : WifiState) (f : ConnectFailure) → Does Q (failure_report s f)
+  failure_report-w : (s : WifiState) (f : Option WifiConnectFailure) → Does Q (failure_report s f)
   unfolding failure_report
-  failure_report-w WifiState.Down ConnectFailure.None w = w-ret
-  failure_report-w WifiState.Down (ConnectFailure.Some f) w = w-ret
+  failure_report-w WifiState.Down None w = w-ret
+  failure_report-w WifiState.Down (Some f) w = w-ret
   failure_report-w WifiState.Connecting f w = w-ret
   failure_report-w WifiState.Connected f w = w-ret
   failure_report-w WifiState.Disconnecting f w = w-ret

@@ -21,14 +21,8 @@ pub returns-then-a : goal.returns-then-a
 unfolding call_tree call_op
 returns-then-a c = record { on = λ frame z e. let q = CallPoint.Send (point_of c.args.p) in over-turns frame e _ c.args.rec.now c.send_ask-a.new.log c.args.s.now c.send_ask-a.new.buf _ c.over-then-a.ensures.0 (c.over-then-a.ensures.1 ∙ c.fault_end.ensures) (law.asked-fault (send_op (point_of c.args.p)) c.send_ask-a.result c.send_ask-a.ensures.asks e (secret_at (to.args_in frame) q) (λ y. Kc (to.args_in frame) q y (turning.world_in c.args.s.now c.args.buf.now)) c.args.s.now (law.not_back _ (sym c.is_back.ensures ∙ c.if-is_back.false)) c.if-a.true (λ y hv i hb. send-faults frame z.most (point_of c.args.p) y c.args.buf.now c.send_ask-a.new.buf i hb e (drop c.send_ask-a.result.pos c.args.rec.now) c.send_ask-a.new.log c.send_ask-a.result.len c.args.s.now c.send_ask-a.result.value hv)); held = c.requires.s_value; kept = record { kept = c.send_ask-a.ensures.kept.kept; session = c.send_ask-a.ensures.kept.session c.args.s.now; buf = c.send_ask-a.ensures.kept.buf }; grew = λ t. absurd (true≢false (sym t ∙ c.over-then-a.ensures.0)) }
 
-pub shape_of-undo : goal.shape_of-undo
-shape_of-undo c = omega (arith)
-
 pub shape_of-log : goal.shape_of-log
 shape_of-log c = omega (arith)
-
-pub shape_of-buf : goal.shape_of-buf
-shape_of-buf c = omega (arith)
 
 pub returns : goal.returns
 unfolding call_tree call_op

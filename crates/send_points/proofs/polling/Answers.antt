@@ -1,8 +1,8 @@
-use Rattle.send.specs.declared.HeaderPut.{HeaderPut}
 use Rattle.send.specs.Send.{polling_step}
 use Rattle.send_points.specs.SendPoints.{point_by}
 use Rattle.send_points.proofs.polling.Goals as goal
+use Rattle.std.specs.Prelude.{None}
 
 pub returns : goal.returns
 unfolding polling_step point_by
-returns c = rw (c.asks.ensures HeaderPut.None, c.poll_from.ensures)
+returns c = rw (c.asks.ensures None, c.poll_from.ensures)

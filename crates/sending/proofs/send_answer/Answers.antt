@@ -1,8 +1,8 @@
-use Rattle.send.specs.declared.HeaderPut.{HeaderPut}
 use Rattle.send.specs.Send.{send_answer, send_op, stall_answer, stall_op, at_first, at_late, at_ready, at_writing}
 use Rattle.send_points.specs.SendPoints.{point_by}
 use Rattle.sending.proofs.Laws.{still, unheard}
 use Rattle.sending.proofs.send_answer.Goals as goal
+use Rattle.std.specs.Prelude.{None}
 
 pub returns-in-First : goal.returns-in-First
 unfolding send_answer stall_answer at_first point_by
@@ -26,4 +26,4 @@ returns-in-Ready c = rw c.in-Ready.is (unheard _ (still c.requires.kept c.requir
 
 pub returns-in-Writing : goal.returns-in-Writing
 unfolding send_answer at_writing point_by
-returns-in-Writing c = rw c.in-Writing.is (unheard _ (still c.requires.kept c.requires.s_value (rw (c.sent.ensures HeaderPut.None))))
+returns-in-Writing c = rw c.in-Writing.is (unheard _ (still c.requires.kept c.requires.s_value (rw (c.sent.ensures None))))

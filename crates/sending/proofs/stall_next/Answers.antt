@@ -6,17 +6,17 @@ use mir.Val.{to_z, of_z}
 use Rattle.definition.specs.Event.{event_of}
 use Rattle.device.specs.Meaning.{Tells}
 use Rattle.wlan.specs.declared.State.{State}
-use Rattle.send.specs.declared.HeaderPut.{HeaderPut}
 use Rattle.send.specs.Send.{stall_next, packet_step, polling_step}
 use Rattle.poll_points.specs.PollPoints.{next_by}
 use Rattle.send_points.specs.SendPoints.{point_by}
 use Rattle.sending.proofs.Laws.{still, unheard, moved}
 use borrow.Author.Rules.{rules}
 use Rattle.sending.proofs.stall_next.Goals as goal
+use Rattle.std.specs.Prelude.{None}
 
 pub returns-in-Ask : goal.returns-in-Ask
 unfolding stall_next next_by point_by
-returns-in-Ask c = λ e h. simp c.in-Ask.is (unheard e (still c.requires.kept c.requires.s_value (rw (c.asks.ensures HeaderPut.None))))
+returns-in-Ask c = λ e h. simp c.in-Ask.is (unheard e (still c.requires.kept c.requires.s_value (rw (c.asks.ensures None))))
 
 pub returns-in-None : goal.returns-in-None
 unfolding stall_next packet_step next_by
@@ -36,4 +36,4 @@ returns-in-Data c = λ e h. simp c.in-Data.is (unheard e (c.test-in-Data.ensures
 
 pub returns-in-HeaderBeyond : goal.returns-in-HeaderBeyond
 unfolding stall_next next_by
-returns-in-HeaderBeyond c = λ e h. simp c.in-HeaderBeyond.is (unheard e (still c.requires.kept c.requires.s_value (rw (c.refuse.ensures HeaderPut.None))))
+returns-in-HeaderBeyond c = λ e h. simp c.in-HeaderBeyond.is (unheard e (still c.requires.kept c.requires.s_value (rw (c.refuse.ensures None))))

@@ -1,15 +1,10 @@
-use borrow.Author.Rules.{rules}
-use borrow.Author.Tests.{lt-ltb, le-ltb}
 use mathlib.Core.Path.{refl}
 use mir.Syntax.{w32}
+use Rattle.std.proofs.lemmas.Int.{of_z-to_z}
 use Rattle.slices.specs.Le.{signed32}
-use Rattle.slices.proofs.Le.{signed_high}
+use Rattle.slices.proofs.Le.{signed_is}
 use Rattle.signed.proofs.signed32.Goals as goal
 
-pub returns-then-x-lt2147483648 : goal.returns-then-x-lt2147483648
+pub returns : goal.returns
 unfolding signed32
-returns-then-x-lt2147483648 c = simp (lt-ltb _ _ c.if-x-lt2147483648.true)
-
-pub returns-else-x-lt2147483648 : goal.returns-else-x-lt2147483648
-unfolding signed32
-returns-else-x-lt2147483648 c = simp (le-ltb _ _ c.if-x-lt2147483648.false) (signed_high w32 4294967295 c.args.x refl c.if-x-lt2147483648.false (search rules))
+returns c = rw (c.cast_signed.ensures, of_z-to_z w32 c.args.x c.ranges.x.fits) (signed_is w32 4294967295 c.args.x refl)

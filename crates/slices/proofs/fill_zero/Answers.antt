@@ -1,5 +1,4 @@
 -- i zeros are down.
-use borrow.Author.Rules.{rules}
 use Prim.Native.Nat.{ℕ}
 use mathlib.Core.Path.{refl, sym}
 use native.Mathlib.Omega.{arith}
@@ -8,15 +7,12 @@ use Rattle.slices.proofs.Over.{laid_none, laid_more, laid-fits}
 use Rattle.slices.proofs.fill_zero.Goals as goal
 
 pub loop-i-init : goal.loop-i-init
-loop-i-init c = (search rules, laid_none refl)
+loop-i-init c = laid_none refl
 
 pub loop-i-preserved : goal.loop-i-preserved
 loop-i-preserved c =
     let n = c.args.n in
-    (search rules, laid_more 0 c.loop-i.invariant.1 (omega (arith, length-replicate {A = ℕ} n 0)) refl refl (sym (get_or-replicate n c.loop-i.i 0 0 (omega arith))))
-
-pub shape_of-dst : goal.shape_of-dst
-shape_of-dst c = c.loop-i.invariant.1.len
+    laid_more 0 c.loop-i.invariant (omega (arith, length-replicate {A = ℕ} n 0)) refl refl (sym (get_or-replicate n c.loop-i.i 0 0 (omega arith)))
 
 pub returns : goal.returns
-returns c = laid-fits c.loop-i.invariant.1 (omega (arith, length-replicate {A = ℕ} c.args.n 0))
+returns c = laid-fits c.loop-i.invariant (omega (arith, length-replicate {A = ℕ} c.args.n 0))

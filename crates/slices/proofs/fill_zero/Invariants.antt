@@ -1,11 +1,7 @@
 -- i zeros are down.
-use Prim.Native.Nat.{◌-◌, ◌≤◌}
 use lib.ListN.{replicate}
 use Rattle.slices.proofs.Over.{Laid}
 use Rattle.slices.proofs.fill_zero.Given as goal
 
 abbrev pub invariant-loop-i : goal.invariant-loop-i
-invariant-loop-i l = (l.i ≤ l.k) × Laid l.initial.dst l.at (replicate l.n 0) l.i l.dst
-
-abbrev pub decreases-loop-i : goal.decreases-loop-i
-decreases-loop-i l = l.k - l.i
+invariant-loop-i l = Laid l.initial.dst l.at (replicate l.n 0) l.i l.dst

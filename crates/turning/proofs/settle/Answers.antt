@@ -4,7 +4,7 @@ use Rattle.turning.proofs.Laws.{put_back}
 use Rattle.turning.proofs.settle.Goals as goal
 
 pub put_back-requires : goal.put_back-requires
-put_back-requires c = record { kept = c.requires.kept; session_len = session-length c.args.session.now c.requires.session_value; buf_len = c.requires.buf_len }
+put_back-requires c = record { kept = c.requires.kept }
 
 pub returns-then-r : goal.returns-then-r
 returns-then-r c = λ session₀ log buf₀ e k hs hb h. put_back k (c.put_back.ensures.0 ∙ hs c.if-r.true) (c.put_back.ensures.1 ∙ hb c.if-r.true) c.if-r.true h

@@ -1,4 +1,5 @@
 use mathlib.Core.Path.{sym}
+use native.Mathlib.Omega.{arith}
 use Rattle.slices.proofs.Over.{part-rest}
 use Rattle.two_pass_read.proofs.TwoPass.{twice, twice-none}
 use Rattle.two_pass_read.proofs.read_bytes.Goals as goal
@@ -11,4 +12,4 @@ returns-then-words-eq0 c =
 pub returns : goal.returns
 returns c =
     let a = c.args in
-    twice a.n c.fitting-at.result a.words.now a.buf.now c.fitting-at.ensures (rw (part-rest a.words.now 1) at c.unpack.ensures) c.put_tail.ensures
+    twice a.n c.min-at.result a.words.now a.buf.now (omega arith) (rw (part-rest a.words.now 1) at c.unpack.ensures) c.put_tail.ensures

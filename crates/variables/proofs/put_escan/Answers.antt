@@ -1,4 +1,3 @@
-use borrow.Author.Rules.{rules}
 use mathlib.Core.List.{[]}
 use mathlib.Core.Path.{refl}
 use Rattle.definition.specs.Request.{ascii, escan, scan_options}

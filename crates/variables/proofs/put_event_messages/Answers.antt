@@ -1,4 +1,3 @@
-use borrow.Author.Rules.{rules}
 use mathlib.Core.List.{[]}
 use mathlib.Core.Path.{refl}
 use Rattle.slices.specs.Le.{le32}
@@ -9,5 +8,5 @@ use Rattle.variables.proofs.put_event_messages.Goals as goal
 pub returns : goal.returns
 unfolding ascii event_messages
 returns c =
-    let mask = rw c.event_mask-mask.ensures at c.copy_over.ensures in
+    let mask = rw c.event_mask.ensures at c.copy_over.ensures in
     (named_more event_mask (named_more (le32 0) (named-is (ascii "bsscfg:event_msgs") [] c.put_name.ensures) refl c.put_le32.ensures) refl mask).is

@@ -1,12 +1,17 @@
-use Rattle.hearing.proofs.Brought.{four-other, two-other, bssid-same}
-use borrow.Author.Rules.{rules}
+use mathlib.Core.Path.{◌≡◌, sym, ◌∙◌}
+use Prim.Native.Nat.{◌+◌, ◌-◌}
+use native.Mathlib.Omega.{arith}
+use Rattle.hearing.proofs.Brought.{result-same}
 use Rattle.hearing.proofs.result.same_result_at.Goals as goal
 
-pub returns-then-four_at : goal.returns-then-four_at
-returns-then-four_at c = four-other c.args.s.now c.args.e.now c.args.at c.four_at.ensures c.four_at-2.ensures (search rules) (search rules) c.if-four_at.true
+pub returns-then-eq : goal.returns-then-eq
+returns-then-eq c =
+    let six : c.args.at + 38 - (c.args.at + 32) ≡ 6 = omega arith in
+    let same = rw six at c.eq.ensures in
+    rw (result-same c.args.s.now c.args.e.now c.args.at, sym same ∙ c.if-eq.true)
 
-pub returns-then-two_at : goal.returns-then-two_at
-returns-then-two_at c = two-other c.args.s.now c.args.e.now c.args.at c.two_at.ensures c.two_at-2.ensures (search rules) (search rules) c.if-two_at.true
-
-pub returns : goal.returns
-returns c = bssid-same c.args.s.now c.args.e.now c.args.at c.four_at.ensures c.four_at-2.ensures c.two_at.ensures c.two_at-2.ensures c.if-four_at.false c.if-two_at.false
+pub returns-else-eq : goal.returns-else-eq
+returns-else-eq c =
+    let six : c.args.at + 38 - (c.args.at + 32) ≡ 6 = omega arith in
+    let same = rw six at c.eq.ensures in
+    rw (result-same c.args.s.now c.args.e.now c.args.at, sym same ∙ c.if-eq.false) c.if-eq.false

@@ -1,5 +1,4 @@
-use mathlib.Core.Logic.{⊎_elim}
-use borrow.Author.Tests.{eq-eqb, ne_eqb}
+use borrow.Author.Tests.{eq-eqb}
 use Rattle.lines.proofs.input.output_length.Goals as goal
 
 pub returns-then-args-eq4 : goal.returns-then-args-eq4

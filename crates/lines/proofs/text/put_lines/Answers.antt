@@ -12,4 +12,4 @@ slice_bounds-put_words-end c = simp length-take (omega arith)
 
 pub returns : goal.returns
 returns c =
-    let k : c.put_words.result ≤ length c.args.text.now = omega (arith, c.put_words.ensures.value, length-take c.fitting-n.result c.args.log.now) in record { text_after = λ e h. lines-laid c.args.text.now c.put_numbers-at.new.text c.put_words.new.text c.args.log.now c.numbers-ns.result c.fitting-n.result c.args.r.len c.put_numbers-at.result c.put_words.result c.put_numbers-at.ensures.text_after c.put_numbers-at.ensures.value.0 c.fitting-n.ensures c.put_words.ensures.text_after c.put_words.ensures.value k ∙ line-is c.args.call e c.args.log.now c.args.s.now c.numbers-ns.result c.args.r h (c.numbers-ns.ensures e c.args.log.now h); upper_bound = search rules }
+    let k : c.put_words.result ≤ length c.args.text.now = omega (arith, c.put_words.ensures.value, length-take c.min-n.result c.args.log.now) in record { text_after = λ e h. lines-laid c.args.text.now c.put_numbers-at.new.text c.put_words.new.text c.args.log.now c.numbers-ns.result c.min-n.result c.args.r.len c.put_numbers-at.result c.put_words.result c.put_numbers-at.ensures.text_after c.put_numbers-at.ensures.value.0 c.min-n.ensures c.put_words.ensures.text_after c.put_words.ensures.value k ∙ line-is c.args.call e c.args.log.now c.args.s.now c.numbers-ns.result c.args.r h (c.numbers-ns.ensures e c.args.log.now h); upper_bound = search rules }

@@ -23,4 +23,4 @@ overflow_add-result-2 c =
 pub returns : goal.returns
 returns c =
     let b : c.args.n < 18446744073709551616 = omega arith in
-    let h : c.decimal-k.result ≤ 20 = twenty c.args.n c.decimal-k.result b c.decimal-k.ensures.len in record { text_after = decimal-laid _ _ _ _ _ _ _ _ b c.decimal-k.ensures.len c.decimal-k.ensures.digits c.copy_over.ensures c.put_byte.ensures; value = (rw length-append (omega (arith, decimal-length c.decimal-k.result c.args.n b c.decimal-k.ensures.len)), omega arith) }
+    let h : c.decimal-k.result ≤ 20 = twenty c.args.n c.decimal-k.result b c.decimal-k.ensures.len in record { text_after = decimal-laid _ _ _ _ _ _ _ _ b c.decimal-k.ensures.len c.decimal-k.ensures.digits c.copy_over.ensures c.put.ensures; value = (rw length-append (omega (arith, decimal-length c.decimal-k.result c.args.n b c.decimal-k.ensures.len)), omega arith) }

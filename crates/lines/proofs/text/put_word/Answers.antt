@@ -13,4 +13,4 @@ overflow_add-at c =
 pub returns : goal.returns
 returns c =
     let b : c.args.w < 4294967296 = omega arith in
-    hex-laid _ _ _ _ _ _ _ _ b c.hex-k.ensures.len c.hex-k.ensures.digits c.copy_over.ensures c.put_byte.ensures
+    hex-laid _ _ _ _ _ _ _ _ b c.hex-k.ensures.len c.hex-k.ensures.digits c.copy_over.ensures c.put.ensures

@@ -1,11 +1,15 @@
-use native.Mathlib.Omega.{arith}
-use Rattle.session_bytes.proofs.Laws.{session-length}
-use Rattle.places.proofs.Laws.{failure-put}
 use borrow.Author.Rules.{rules}
+use mathlib.Core.Path.{refl}
+use mathlib.Core.List.{[], ◌∷◌}
+use Rattle.slices.specs.Le.{le32}
+use Rattle.slices.proofs.Over.{run_none, run_more}
+use Rattle.places.proofs.Laws.{failure-put}
 use Rattle.places.proofs.write.put_failure.Goals as goal
 
-pub put_whole-requires : goal.put_whole-requires
-put_whole-requires c = omega (arith, session-length c.args.s.now c.requires)
-
 pub returns : goal.returns
-returns c = failure-put c.args.s.now c.requires c.args.x c.failure_parts-f.result c.failure_parts-f.ensures (search rules) (search rules) c.put_whole.ensures
+returns c =
+    let p = c.failure_parts-p.result in
+    let r₁ = run_more (p.tag ∷ []) run_none refl c.put_whole.ensures in
+    let r₂ = run_more (le32 p.status) r₁ refl (rw c.to_le_bytes.ensures at c.put_whole-2.ensures) in
+    let r₃ = run_more (le32 p.reason) r₂ refl (rw c.to_le_bytes-2.ensures at c.put_whole-3.ensures) in
+    failure-put c.args.s.now c.requires c.args.x p c.failure_parts-p.ensures (search rules) (search rules) r₃.is

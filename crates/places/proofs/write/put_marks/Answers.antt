@@ -1,10 +1,5 @@
-use native.Mathlib.Omega.{arith}
-use Rattle.session_bytes.proofs.Laws.{session-length}
-use Rattle.places.proofs.Laws.{marks-put}
+use Rattle.places.proofs.Laws.{mark-is, marks-put}
 use Rattle.places.proofs.write.put_marks.Goals as goal
 
-pub put_whole-requires : goal.put_whole-requires
-put_whole-requires c = omega (arith, session-length c.args.s.now c.requires)
-
 pub returns : goal.returns
-returns c = marks-put c.args.s.now c.requires c.args.x (rw (← c.bit.ensures, ← c.bit-2.ensures) c.put_whole.ensures)
+returns c = marks-put c.args.s.now c.requires c.args.x (rw (c.from.ensures, c.from-2.ensures, mark-is c.args.x.scan_done, mark-is c.args.x.scan_in_progress) at c.put_whole.ensures)

@@ -1,11 +1,13 @@
--- A record that is taken is one store more.
-use Rattle.std.proofs.Common.{refl, arith, rules}
-use Rattle.slices.proofs.Over.{laid_none, laid_more}
+use Prim.Native.Nat.{min}
+use mathlib.Core.Path.{◌≡◌}
+use native.Mathlib.Omega.{arith}
+use lib.ListN.{length}
+use borrow.Author.Rules.{rules}
+use Rattle.scan_table.proofs.Laws.{front_laid}
 use Rattle.scan_table.proofs.table.list_in.Goals as goal
 
-pub loop-i-init : goal.loop-i-init
-loop-i-init c = (search rules, (rw c.empty_list-l.ensures.0 (laid_none refl), c.empty_list-l.ensures.1))
-
-pub loop-i-preserved : goal.loop-i-preserved
-loop-i-preserved c =
-    (omega arith, (rw c.with_record-l.ensures.0 (laid_more _ c.loop-i.invariant.1.0 (omega arith) refl (omega arith) refl), search rules))
+pub returns : goal.returns
+returns c =
+    let size : length c.empty_list.result.records ≡ 32 = search rules in
+    let n : c.min-n.result ≡ min (length c.args.table.now) (length c.empty_list.result.records) = omega arith in
+    rw c.copy_from_slice.ensures.after (rw (front_laid c.empty_list.result.records c.args.table.now c.min-n.result n, c.empty_list.ensures.0))

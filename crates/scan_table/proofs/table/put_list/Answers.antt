@@ -1,14 +1,13 @@
--- A record that is laid is one store more.
-use Rattle.std.proofs.Common.{refl, arith, rules}
-use Rattle.slices.proofs.Over.{laid_none, laid_more, laid-fits}
-use Rattle.scan_table.specs.Table.{empty_record}
+use Prim.Native.Nat.{min}
+use mathlib.Core.Path.{◌≡◌}
+use native.Mathlib.Omega.{arith}
+use lib.ListN.{length}
+use borrow.Author.Rules.{rules}
+use Rattle.scan_table.proofs.Laws.{front_laid}
 use Rattle.scan_table.proofs.table.put_list.Goals as goal
 
-pub loop-i-init : goal.loop-i-init
-loop-i-init c = (search rules, laid_none refl)
-
-pub loop-i-preserved : goal.loop-i-preserved
-loop-i-preserved c = (omega arith, laid_more empty_record c.loop-i.invariant.1 (omega arith) refl (omega arith) c.record_of.ensures)
-
 pub returns : goal.returns
-returns c = laid-fits c.loop-i.invariant.1 (omega arith)
+returns c =
+    let size : length c.args.l.records ≡ 32 = search rules in
+    let n : c.min-n.result ≡ min (length c.args.l.records) (length c.args.table.now) = omega arith in
+    rw c.copy_from_slice.ensures.after (front_laid c.args.table.now c.args.l.records c.min-n.result n)

@@ -7,4 +7,4 @@ use Rattle.session_write.proofs.Laws.{list_put}
 use Rattle.session_write.proofs.list.put_list.Goals as goal
 
 pub returns : goal.returns
-returns c = let w = c.put_records.ensures.back in record { put = list_put c.args.out.now c.args.l c.count_bytes-n.ensures.0 c.copy_over.ensures c.put_records.ensures.put; back = (list-size c.args.l w.0 w.1, list_back c.args.l w.0 w.1 (ap (λ (b : List ℕ). le32_at b 0 + 4294967296 * le32_at b 4) (sym c.count_bytes-n.ensures.0) ∙ c.count_bytes-n.ensures.1)) }
+returns c = let w = c.put_records.ensures.back in record { put = list_put c.args.out.now c.args.l c.count_bytes.ensures.0 c.copy_over.ensures c.put_records.ensures.put; back = (list-size c.args.l w.0 w.1, list_back c.args.l w.0 w.1 (ap (λ (b : List ℕ). le32_at b 0 + 4294967296 * le32_at b 4) (sym c.count_bytes.ensures.0) ∙ c.count_bytes.ensures.1)) }

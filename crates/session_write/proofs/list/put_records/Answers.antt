@@ -1,9 +1,5 @@
 use borrow.Author.Rules.{rules}
-use mathlib.Core.Path.{◌≡◌}
-use Prim.Native.Nat.{◌-◌}
 use native.Mathlib.Omega.{arith}
-use lib.ListN.{take}
-use lib.Seq.{take_all}
 use Rattle.slices.proofs.Over.{run_none}
 use Rattle.session_bytes.specs.ListBytes.{records_bytes}
 use Rattle.session_write.proofs.Laws.{each_next, records-next}
@@ -11,13 +7,7 @@ use Rattle.session_write.proofs.list.put_records.Goals as goal
 
 pub loop-i-init : goal.loop-i-init
 unfolding records_bytes
-loop-i-init c = (search rules, (search rules), c.requires, run_none, tt)
+loop-i-init c = (search rules, (search rules), c.told-out, run_none, tt)
 
 pub loop-i-preserved : goal.loop-i-preserved
 loop-i-preserved c = (search rules, c.loop-i.invariant.1, c.loop-i.invariant.2, records-next c.args.records c.loop-i.i _ (omega arith) c.loop-i.invariant.4 c.loop-i.invariant.3 c.put_record.ensures.put, each_next c.args.records c.loop-i.i _ (omega arith) c.loop-i.invariant.4 c.put_record.ensures.back)
-
-pub shape_of-out : goal.shape_of-out
-shape_of-out c = c.loop-i.invariant.3.len
-
-pub returns : goal.returns
-returns c = let i = c.loop-i.invariant in let e : take c.loop-i.i c.args.records ≡ c.args.records = take_all c.loop-i.i c.args.records (omega arith) in record { put = rw e at i.3.is; back = (i.1, rw e at i.4) }

@@ -10,4 +10,5 @@ use Rattle.work_buffer.proofs.lay.put_iovar.Goals as goal
 pub returns : goal.returns
 unfolding bytes_of
 returns c =
-    (named_more (le32 c.args.x) (named-is (ascii (name_of c.args.v)) [] c.put_iovar_name.ensures) (omega (arith, name-length c.args.v)) c.put_le32.ensures).is
+    let laid = rw c.name.ensures at c.put_name.ensures in
+    (named_more (le32 c.args.x) (named-is (ascii (name_of c.args.v)) [] laid) (omega (arith, name-length c.args.v)) c.put_le32.ensures).is

@@ -1,9 +1,0 @@
-use mathlib.Core.Path.{sym}
-use Rattle.slices.proofs.Over.{set-over, over-past}
-use Rattle.put_words.proofs.put_byte.Goals as goal
-
-pub returns-then-i-dst : goal.returns-then-i-dst
-returns-then-i-dst c = set-over _ _ _
-
-pub returns-else-i-dst : goal.returns-else-i-dst
-returns-else-i-dst c = sym (over-past _ _ _ c.if-i-dst.false)
