@@ -1,5 +1,5 @@
 -- What a call's arguments are, read from bytes.
-use Rattle.std.specs.Prelude.{ℕ, ◌≡◌, Option, Some, None}
+use Rattle.std.specs.Prelude.{ℕ, ◌≡◌, ◌+◌, ◌≤◌, length, take, drop, Option, Some, None}
 use Rattle.slices.specs.Le.{le32_at}
 use Rattle.definition.specs.Bus.{Bytes}
 use Rattle.definition.specs.Calls.{Call}
@@ -26,3 +26,18 @@ output_by a None = 0
 -- r is the call c with these arguments
 abbrev pub Reads : ℕ → Bytes → Option CallArgs → Type 0
 Reads c a r = (arguments_of c a ≡ arguments_by a r) × (output_length c a ≡ output_by a r)
+
+-- x lies in a; y is a's end
+abbrev pub LiesIn : Bytes → Bytes → Type 0
+LiesIn a x = (i : ℕ) × (i + length x ≤ length a) × (x ≡ take (length x) (drop i a))
+
+abbrev pub IsEndOf : Bytes → Bytes → Type 0
+IsEndOf a y = (k : ℕ) × (k ≤ length a) × (y ≡ drop k a)
+
+-- what r lends is lent from a
+abbrev pub LentFrom : Bytes → Option CallArgs → Type 0
+LentFrom a (Some (CallArgs.Exchanges c x y)) = LiesIn a x.now × IsEndOf a y.now
+LentFrom a (Some CallArgs.Poll) = Unit {0}
+LentFrom a (Some (CallArgs.Send interface frame)) = IsEndOf a frame.now
+LentFrom a (Some CallArgs.Take) = Unit {0}
+LentFrom a None = Unit {0}

@@ -28,7 +28,8 @@ fn first_zero(s: &[u8]) -> Option<usize>
 }
 
 fn init(args: &[u8]) -> Option<CallArgs<'_>>
-    ensures { to.Reads 1 args.now result }
+    ensures reads { to.Reads 1 args.now result }
+    ensures lent { to.LentFrom args.now result }
 {
     if args.len() != 4 {
         return None;
@@ -39,7 +40,8 @@ fn init(args: &[u8]) -> Option<CallArgs<'_>>
 
 // Auth, SSID length, SSID, passphrase.
 fn join(args: &[u8]) -> Option<CallArgs<'_>>
-    ensures { to.Reads 3 args.now result }
+    ensures reads { to.Reads 3 args.now result }
+    ensures lent { to.LentFrom args.now result }
 {
     let (_, rest) = args.split_at_checked(8)?;
     let (ssid, passphrase) = rest.split_at_checked(get_le32(args, 4) as usize)?;
@@ -48,7 +50,8 @@ fn join(args: &[u8]) -> Option<CallArgs<'_>>
 }
 
 fn send(args: &[u8]) -> Option<CallArgs<'_>>
-    ensures { to.Reads 7 args.now result }
+    ensures reads { to.Reads 7 args.now result }
+    ensures lent { to.LentFrom args.now result }
 {
     let (_, frame) = args.split_at_checked(4)?;
     Some(CallArgs::Send(get_le32(args, 0), frame))
@@ -56,7 +59,8 @@ fn send(args: &[u8]) -> Option<CallArgs<'_>>
 
 // The output is as long as the argument says.
 fn take(args: &[u8]) -> Option<CallArgs<'_>>
-    ensures { to.Reads 8 args.now result }
+    ensures reads { to.Reads 8 args.now result }
+    ensures lent { to.LentFrom args.now result }
 {
     if args.len() != 4 {
         return None;
@@ -65,7 +69,8 @@ fn take(args: &[u8]) -> Option<CallArgs<'_>>
 }
 
 fn gpio(args: &[u8]) -> Option<CallArgs<'_>>
-    ensures { to.Reads 9 args.now result }
+    ensures reads { to.Reads 9 args.now result }
+    ensures lent { to.LentFrom args.now result }
 {
     if args.len() != 8 {
         return None;
@@ -75,7 +80,8 @@ fn gpio(args: &[u8]) -> Option<CallArgs<'_>>
 }
 
 fn get(args: &[u8]) -> Option<CallArgs<'_>>
-    ensures { to.Reads 11 args.now result }
+    ensures reads { to.Reads 11 args.now result }
+    ensures lent { to.LentFrom args.now result }
 {
     if args.len() != 8 {
         return None;
@@ -85,7 +91,8 @@ fn get(args: &[u8]) -> Option<CallArgs<'_>>
 }
 
 fn set(args: &[u8]) -> Option<CallArgs<'_>>
-    ensures { to.Reads 12 args.now result }
+    ensures reads { to.Reads 12 args.now result }
+    ensures lent { to.LentFrom args.now result }
 {
     if args.len() != 12 {
         return None;
@@ -96,7 +103,8 @@ fn set(args: &[u8]) -> Option<CallArgs<'_>>
 
 // Interface, name, zero, data.
 fn variable(args: &[u8]) -> Option<CallArgs<'_>>
-    ensures { to.Reads 13 args.now result }
+    ensures reads { to.Reads 13 args.now result }
+    ensures lent { to.LentFrom args.now result }
 {
     let (_, rest) = args.split_at_checked(4)?;
     let n = first_zero(rest)?;
@@ -107,7 +115,8 @@ fn variable(args: &[u8]) -> Option<CallArgs<'_>>
 // The calls that have no arguments.
 fn bare(call: u32, args: &[u8]) -> Option<CallArgs<'_>>
     requires { Plain call }
-    ensures { to.Reads call args.now result }
+    ensures reads { to.Reads call args.now result }
+    ensures lent { to.LentFrom args.now result }
 {
     if !args.is_empty() {
         return None;
@@ -124,7 +133,8 @@ fn bare(call: u32, args: &[u8]) -> Option<CallArgs<'_>>
 
 // The call of that number, unless arguments are missing or left over.
 pub fn read_args(call: u32, args: &[u8]) -> Option<CallArgs<'_>>
-    ensures { to.Reads call args.now result }
+    ensures reads { to.Reads call args.now result }
+    ensures lent { to.LentFrom args.now result }
 {
     match call {
         1 => init(args),

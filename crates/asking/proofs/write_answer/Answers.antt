@@ -5,9 +5,6 @@ use Rattle.wlan.specs.declared.BusOp.{BusOp}
 use Rattle.asking.proofs.Laws as law
 use Rattle.asking.proofs.write_answer.Goals as goal
 
-pub overflow_add-pos : goal.overflow_add-pos
-overflow_add-pos c = omega (arith, (c.begins.ensures c.if-begins.true).there)
-
 pub returns-then-begins : goal.returns-then-begins
 returns-then-begins c =
     let a = c.args in

@@ -1,9 +1,6 @@
 use Rattle.device.specs.Meaning.{landing}
 use Rattle.effects.proofs.land.land.Goals as goal
 
-pub land_packet-requires : goal.land_packet-requires
-land_packet-requires c = simp c.in-ReadPacket.is at c.requires
-
 pub returns-in-ReadInterrupt : goal.returns-in-ReadInterrupt
 unfolding landing
 returns-in-ReadInterrupt c = simp c.in-ReadInterrupt.is
@@ -11,10 +8,6 @@ returns-in-ReadInterrupt c = simp c.in-ReadInterrupt.is
 pub returns-in-ReadStatus : goal.returns-in-ReadStatus
 unfolding landing
 returns-in-ReadStatus c = simp c.in-ReadStatus.is
-
-pub returns-in-ReadPacket : goal.returns-in-ReadPacket
-unfolding landing
-returns-in-ReadPacket c = simp c.in-ReadPacket.is c.land_packet.ensures
 
 pub returns-in-ReadClock : goal.returns-in-ReadClock
 unfolding landing

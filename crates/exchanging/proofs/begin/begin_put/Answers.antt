@@ -7,8 +7,5 @@ use Rattle.plans.specs.Plans.{put_by}
 use Rattle.exchanging.proofs.Laws.{laid-first}
 use Rattle.exchanging.proofs.begin.begin_put.Goals as goal
 
-pub begin_laid-requires : goal.begin_laid-requires
-begin_laid-requires c = record { s_value = c.requires.s_value; kept = c.lay_by.ensures.kept.kept }
-
 pub returns : goal.returns
 returns c = λ h before c₀ e. let a = args_of c.args.j c.args.first.now c.args.second.now in let put = put_by c.args.begin c.request_at-r.result c.new_id-id.result in laid-first c.lay_by.ensures.kept (rw (c.request_len.ensures, c.new_id-id.ensures, c.request_at-r.ensures) at (c.begin_laid.ensures a h before put c₀ (c.lay_by.ensures.laid c.args.j ∙ ap (λ (x : Bytes). laid_request a put x) e)))
