@@ -132,6 +132,7 @@ fn bare(call: u32, args: &[u8]) -> Option<CallArgs<'_>>
 }
 
 // The call of that number, unless arguments are missing or left over.
+#[tactic(auto, using(crate::proofs::Numbered::renumbered))]
 pub fn read_args(call: u32, args: &[u8]) -> Option<CallArgs<'_>>
     ensures reads { to.Reads call args.now result }
     ensures lent { to.LentFrom args.now result }
