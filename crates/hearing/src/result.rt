@@ -13,13 +13,23 @@ use session_bytes::list::put_whole;
 use slices::fill_zero;
 use wlan::SessionBytes;
 
-// The same BSSID and channel, of the event e and of the record at index at.
+// The N bytes from index at on.
+fn bytes_at<const N: usize>(p: &[u8], at: usize) -> [u8; N]
+    requires { at + N ≤ length p.now }
+    ensures { result ≡ take N (drop at p.now) }
+{
+    let mut bytes = [0u8; N];
+    bytes.copy_from_slice(&p[at..at + N]);
+    bytes
+}
+
+// The same BSSID and channel, of the event e and of the record at index at. The BSSIDs are compared as arrays: of slices it is a call.
 fn same_result_at(s: &[u8], at: usize, e: &[u8]) -> bool
     requires at_in_bounds { at + 42 ≤ length s.now }
     requires e_len { length e.now ≡ 140 }
     ensures { result ≡ same_network (record_of (drop at s.now)) (scan_result_of e.now) }
 {
-    s[at + 32..at + 38] == e[68..74] && s[at + 39] == e[132]
+    bytes_at::<6>(s, at + 32) == bytes_at::<6>(e, 68) && s[at + 39] == e[132]
 }
 
 // Is the event's network among the first n records?

@@ -1,16 +1,20 @@
 -- Where a record's parts lie.
 use mathlib.Core.Path.{◌≡◌, sym}
-use mathlib.Core.List.{List}
-use Prim.Native.Nat.{ℕ, ◌+◌, ◌*◌, ◌-◌, ◌<◌}
+use mathlib.Core.List.{List, [], ◌∷◌}
+use Prim.Native.Nat.{ℕ, ◌+◌, ◌*◌, ◌-◌, ◌<◌, ◌≤◌}
 use native.Mathlib.Omega.{arith}
 use lib.ListN.{length, take, drop, get_or}
-use lib.Seq.{drop-drop, get_or-take}
+use lib.Seq.{drop-drop, drop-cons, get_or-take}
 use Rattle.std.specs.Int.{w64, from_le_bytes}
 use Rattle.slices.specs.Le.{le32_at}
 use Rattle.slices.proofs.Over.{part-rest}
 use Rattle.wlan.specs.declared.ScanRecord.{ScanRecord}
 use Rattle.session_bytes.specs.ListBytes.{record_of, records_from}
 use Rattle.session_bytes.proofs.Laws.{get_or-from}
+
+pub bssid-at : (p : List ℕ) → 42 ≤ length p → get_or p 32 0 ∷ get_or p 33 0 ∷ get_or p 34 0 ∷ get_or p 35 0 ∷ get_or p 36 0 ∷ get_or p 37 0 ∷ [] ≡ take 6 (drop 32 p)
+bssid-at p h =
+    rw (drop-cons p 32 0 (omega arith), drop-cons p 33 0 (omega arith), drop-cons p 34 0 (omega arith), drop-cons p 35 0 (omega arith), drop-cons p 36 0 (omega arith), drop-cons p 37 0 (omega arith))
 
 -- the first 8 bytes as a number
 pub count-is : (p : List ℕ) {n : ℕ} → n ≡ from_le_bytes w64 (take 8 p) → n ≡ le32_at p 0 + 4294967296 * le32_at p 4

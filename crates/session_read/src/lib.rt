@@ -34,6 +34,13 @@ fn bytes_at<const N: usize>(p: &[u8], at: usize) -> [u8; N]
     bytes
 }
 
+fn bssid_in(p: &[u8]) -> [u8; 6]
+    requires { 42 ≤ length p.now }
+    ensures { result ≡ take 6 (drop 32 p.now) }
+{
+    [p[32], p[33], p[34], p[35], p[36], p[37]]
+}
+
 // The record that the first 42 bytes hold.
 fn record_in(p: &[u8]) -> ScanRecord
     requires { 42 ≤ length p.now }
@@ -41,7 +48,7 @@ fn record_in(p: &[u8]) -> ScanRecord
 {
     ScanRecord {
         ssid: bytes_at(p, 0),
-        bssid: bytes_at(p, 32),
+        bssid: bssid_in(p),
         ssid_len: p[38],
         channel: p[39],
         rssi: signed16(u16::from_le_bytes([p[40], p[41]])),

@@ -84,11 +84,13 @@ fn put_kept(undo: &mut UndoBytes, n: usize)
     undo[1] = high;
 }
 
-// Copies n bytes.
+// Copies n bytes, by a loop: the library's `copy_from_slice` is a call of memmove, which a board would have to bring.
 fn copy(dst: &mut [u8], to: usize, src: &[u8], from: usize, n: usize)
     requires to_in_bounds { to + n ≤ length dst.old }
     requires from_in_bounds { from + n ≤ length src.now }
     ensures { dst.new ≡ over dst.old to (take n (drop from src.now)) }
 {
-    dst[to..to + n].copy_from_slice(&src[from..from + n]);
+    for i in 0..n {
+        dst[to + i] = src[from + i];
+    }
 }

@@ -1,10 +1,14 @@
+-- i elements of src are down.
+use mathlib.Core.Path.{refl}
 use native.Mathlib.Omega.{arith}
-use mathlib.Core.Path.{sym}
-use Rattle.slices.proofs.Over.{put-fits, over-past}
+use Rattle.slices.proofs.Over.{laid_none, laid_more, laid-fits}
 use Rattle.slices.proofs.copy_over.Goals as goal
 
-pub returns-then-at-dst : goal.returns-then-at-dst
-returns-then-at-dst c = put-fits _ _ _ _ _ c.if-at-dst.true c.fitting-n.ensures (omega arith) c.copy_from_slice.ensures.after
+pub loop-i-init : goal.loop-i-init
+loop-i-init c = laid_none refl
 
-pub returns-else-at-dst : goal.returns-else-at-dst
-returns-else-at-dst c = sym (over-past _ _ _ c.if-at-dst.false)
+pub loop-i-preserved : goal.loop-i-preserved
+loop-i-preserved c = laid_more 0 c.loop-i.invariant (omega arith) refl refl refl
+
+pub returns : goal.returns
+returns c = laid-fits c.loop-i.invariant (omega arith)

@@ -13,6 +13,8 @@ returns-then-not-is_session c = rw c.in-Some.ensures.cases.same (law.entered-non
 pub returns-in_default-as_mut_array : goal.returns-in_default-as_mut_array
 returns-in_default-as_mut_array c = rw c.in-Some.ensures.cases.same (law.entered-other (Call.send_data c.args.interface c.args.frame.now) c.args.session.now c.args.rec.now c.args.log.now c.args.res.now c.args.buf.now (length c.args.undo.now) _ _ (rw c.in-Some.ensures.cases.same at (sym c.is_session.ensures ∙ c.if-not-is_session.false)) c.in_default-as_mut_array.ensures.cases c.other_length.ensures.0 c.other_length.ensures.1)
 
+-- A work buffer of another length is refused with 13;
+-- all is as it was, but for the result.
 pub returns-in_default-as_mut_array-2 : goal.returns-in_default-as_mut_array-2
 returns-in_default-as_mut_array-2 c = rw c.in-Some.ensures.cases.same (law.entered-buffer (Call.send_data c.args.interface c.args.frame.now) c.args.session.now c.args.rec.now c.args.log.now c.args.res.now c.args.buf.now (length c.args.undo.now) _ _ (rw c.in-Some.ensures.cases.same at (sym c.is_session.ensures ∙ c.if-not-is_session.false)) c.in-Some-as_mut_array.ensures.cases.long c.in_default-as_mut_array-2.ensures.cases c.other_length-in_default-as_mut_array-2.ensures.0 c.other_length-in_default-as_mut_array-2.ensures.1)
 

@@ -6,12 +6,10 @@ use Rattle.hearing.proofs.result.same_result_at.Goals as goal
 
 pub returns-then-eq : goal.returns-then-eq
 returns-then-eq c =
-    let six : c.args.at + 38 - (c.args.at + 32) ≡ 6 = omega arith in
-    let same = rw six at c.eq.ensures in
+    let same = rw (c.bytes_at.ensures, c.bytes_at-2.ensures) at c.eq.ensures in
     rw (result-same c.args.s.now c.args.e.now c.args.at, sym same ∙ c.if-eq.true)
 
 pub returns-else-eq : goal.returns-else-eq
 returns-else-eq c =
-    let six : c.args.at + 38 - (c.args.at + 32) ≡ 6 = omega arith in
-    let same = rw six at c.eq.ensures in
+    let same = rw (c.bytes_at.ensures, c.bytes_at-2.ensures) at c.eq.ensures in
     rw (result-same c.args.s.now c.args.e.now c.args.at, sym same ∙ c.if-eq.false) c.if-eq.false
