@@ -2,18 +2,19 @@
 use mathlib.Core.Path.{◌≡◌, refl, sym, ap, ◌∙◌}
 use mathlib.Core.Bool.{Bool, true, false, ◌&&◌}
 use mathlib.Core.List.{List, [], ◌∷◌, ◌++◌}
-use Prim.Native.Nat.{ℕ, suc, ◌+◌, ◌-◌, ◌≤◌, ◌<◌, min}
+use Prim.Native.Nat.{ℕ, zero, suc, ◌+◌, ◌-◌, ◌≤◌, ◌<◌, min}
 use native.Mathlib.Omega.{arith}
 use lib.Dec.{eqb}
 use lib.ListN.{length, take, drop, get_or, replicate, length-append, length-replicate}
-use lib.Seq.{take-add}
+use lib.Seq.{take-add, take-nil, drop-drop}
+use native.Mathlib.Nat.{zero-add, suc-add}
 use Rattle.slices.specs.Over.{over}
 use Rattle.slices.specs.Le.{le16_at, signed16}
 use Rattle.slices.proofs.Over.{over-append, over-hides, length_part}
 use Rattle.std.specs.Str.{bytes_eq}
 use Rattle.std.specs.List.{list_any, range_with_len}
 use Rattle.wlan.specs.declared.ScanRecord.{ScanRecord}
-use Rattle.definition.specs.Scan.{same_network, known}
+use Rattle.definition.specs.Scan.{same_bytes, same_network, known}
 use Rattle.events.proofs.Laws.{same-is}
 use Rattle.definition.specs.Event.{scan_result_of}
 use Rattle.session_bytes.specs.ListBytes.{tail_bytes, record_bytes, record_of, Whole}
@@ -29,12 +30,32 @@ swap true false = refl
 swap false true = refl
 swap false false = refl
 
+assoc : (a b c : Bool) → (a && (b && c)) ≡ ((a && b) && c)
+assoc true b c = refl
+assoc false b c = refl
+
+-- lists are compared piece by piece
+pub pieces : (n m : ℕ) (x y : List ℕ) → bytes_eq (take (n + m) x) (take (n + m) y) ≡ (bytes_eq (take n x) (take n y) && bytes_eq (take m (drop n x)) (take m (drop n y)))
+pieces zero m x y = rw zero-add
+pieces (suc n) m [] [] = rw (suc-add, take-nil)
+pieces (suc n) m [] (b ∷ y) = rw suc-add
+pieces (suc n) m (a ∷ x) [] = rw suc-add
+pieces (suc n) m (a ∷ x) (b ∷ y) = rw (suc-add, pieces n m x y) (assoc (eqb a b) (bytes_eq (take n x) (take n y)) (bytes_eq (take m (drop n x)) (take m (drop n y))))
+
+pub bssid-pieces : (s e : List ℕ) (at : ℕ) → same_bytes (take 6 (drop (at + 32) s)) (take 6 (drop 68 e)) ≡ (bytes_eq (take 4 (drop (at + 32) s)) (take 4 (drop 68 e)) && bytes_eq (take 2 (drop (at + 36) s)) (take 2 (drop 72 e)))
+bssid-pieces s e at =
+    let p = pieces 4 2 (drop (at + 32) s) (drop 68 e) in
+    let q : at + 32 + 4 ≡ at + 36 = omega arith in
+    let u : drop 4 (drop (at + 32) s) ≡ drop (at + 36) s = drop-drop 4 (at + 32) s ∙ ap (λ (k : ℕ). drop k s) q in
+    let v : drop 4 (drop 68 e) ≡ drop 72 e = drop-drop 4 68 e in
+    same-is (take 6 (drop (at + 32) s)) (take 6 (drop 68 e)) ∙ rw (u, v) at p
+
 -- the record at index at of s, and the event e
 pub result-same : (s e : List ℕ) (at : ℕ)
-    → same_network (record_of (drop at s)) (scan_result_of e) ≡ (bytes_eq (take 6 (drop (at + 32) s)) (take 6 (drop 68 e)) && eqb (get_or s (at + 39) 0) (get_or e 132 0))
+    → same_network (record_of (drop at s)) (scan_result_of e) ≡ (same_bytes (take 6 (drop (at + 32) s)) (take 6 (drop 68 e)) && eqb (get_or s (at + 39) 0) (get_or e 132 0))
 unfolding scan_result_of
 result-same s e at =
-    rw (same_here s at (scan_result_of e), same-is (take 6 (drop (at + 32) s)) (take 6 (drop 68 e))) (swap (eqb (get_or s (at + 39) 0) (get_or e 132 0)) _)
+    rw (same_here s at (scan_result_of e)) (swap (eqb (get_or s (at + 39) 0) (get_or e 132 0)) _)
 
 -- a search by index
 pub searched : (l : List ScanRecord) (r : ScanRecord) (t : ℕ → Bool) (a : ℕ) → ((i : ℕ) → i < length l → t (a + i) ≡ same_network (get_or l i r) r)

@@ -20,7 +20,7 @@ pub fn keep_front(undo: &mut UndoBytes, session: &SessionBytes)
     undo[0] = 0;
     undo[1] = 0;
     undo[2] = 0;
-    copy(undo, 3, session, 0, FRONT);
+    copy_front(undo, 3, session, 0);
 }
 
 // Keeps the work buffer's bytes before index to, as far as they are not kept yet, and up to 7 more.
@@ -62,7 +62,7 @@ pub fn put_back(undo: &UndoBytes, session: &mut SessionBytes, buf: &mut WorkBuff
 fn put_session(undo: &UndoBytes, session: &mut SessionBytes)
     ensures { session.new ≡ back_session undo.now session.old }
 {
-    copy(session, 0, undo, 3, FRONT);
+    copy_front(session, 0, undo, 3);
     if undo[2] == 1 {
         copy(session, FRONT, undo, 52, RECORDS);
     }
@@ -84,7 +84,16 @@ fn put_kept(undo: &mut UndoBytes, n: usize)
     undo[1] = high;
 }
 
-// Copies n bytes, by a loop: the library's `copy_from_slice` is a call of memmove, which a board would have to bring.
+// Copies the front: of a constant length it is a move.
+fn copy_front(dst: &mut [u8], to: usize, src: &[u8], from: usize)
+    requires to_in_bounds { to + 49 ≤ length dst.old }
+    requires from_in_bounds { from + 49 ≤ length src.now }
+    ensures { dst.new ≡ over dst.old to (take 49 (drop from src.now)) }
+{
+    dst[to..to + FRONT].copy_from_slice(&src[from..from + FRONT]);
+}
+
+// Copies n bytes, by a loop: of a length that is no constant `copy_from_slice` is a call of memmove, which a board would have to bring.
 fn copy(dst: &mut [u8], to: usize, src: &[u8], from: usize, n: usize)
     requires to_in_bounds { to + n ≤ length dst.old }
     requires from_in_bounds { from + n ≤ length src.now }
